@@ -1,0 +1,2 @@
+-- Lemmas about the text format.
+pub mod Cutting

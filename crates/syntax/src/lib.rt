@@ -1,0 +1,2 @@
+// The text format: tokens, and the declarations that they say.
+pub mod lexer;
