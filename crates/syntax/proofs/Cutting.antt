@@ -10,7 +10,8 @@ use lib.Dec.{eqb}
 use lib.ListN.{length, take, drop, getD, drop-of-length-le}
 use lib.Seq.{drop-cons}
 use Rattle.std.proofs.shelf.Lists.{take-more}
-use Rattle.std.proofs.shelf.Tests.{ne-eqb, cond-false, both-ways}
+use Rattle.std.proofs.shelf.Tests.{ne-eqb, cond-false, both-ways, and-from, and-parts}
+use Rattle.syntax.specs.Grammar.{letters}
 use Rattle.syntax.specs.Lexing.{Solid, NoLetter}
 use Rattle.syntax.specs.Surface.{Name}
 use Rattle.syntax.specs.Tokens.{Mode, Turn, between, word, sign, comment, letter, blank, begins, joins, fresh, tokens, tokens-from}
@@ -157,3 +158,10 @@ symbol-at (c ∷ d ∷ cs) h s l j = sign-one c d cs s l (j (omega arith))
 pub word-at : (bs : List ℕ) → 0 < length bs → Solid bs → letter (getD bs 0 0) ≡ true → (getD bs 0 0 ≡ 95 → ⊥) → tokens bs ≡ tokens-from (word []) bs
 word-at [] h s l u = absurd (let z : ⊥ = omega arith in z)
 word-at (c ∷ cs) h s l u = word-begins c cs s l u
+
+-- One more letter.
+letters-append : (xs ys : Name) → letters xs ≡ true → letters ys ≡ true → letters (xs ++ ys) ≡ true
+letters-append [] ys p q = q
+letters-append (x ∷ xs) ys p q = and-from (letter x) _ (and-parts (letter x) _ p .0) (letters-append xs ys (and-parts (letter x) _ p .1) q)
+pub letters-on : (bs : List ℕ) (n : ℕ) → n < length bs → letters (take n bs) ≡ true → letter (getD bs n 0) ≡ true → letters (take (n + 1) bs) ≡ true
+letters-on bs n h p q = ap letters (take-more bs n 0 h) ∙ letters-append (take n bs) _ p (and-from (letter (getD bs n 0)) _ q refl)

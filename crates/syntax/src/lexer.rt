@@ -4,7 +4,8 @@ ghost use mathlib.Core.Bool.{true, false};
 ghost use mathlib.Core.List.{_∷_, []};
 ghost use Prim.Native.Nat.{_≤_, _<_};
 ghost use lib.ListN.{length, take, drop, getD};
-ghost use Rattle.syntax.specs.Tokens.{letter, blank, tokens, tokens-from, word, joins};
+ghost use Rattle.syntax.specs.Tokens.{letter, blank, tokens, tokens-from, word};
+ghost use Rattle.syntax.specs.Grammar.{letters};
 ghost use Rattle.syntax.specs.Lexing.{Cuts, CutsOne, Solid, Joins, NoLetter};
 
 // A token: a word of letters, digits and _; the signs := => ->; any other byte by itself.
@@ -64,6 +65,7 @@ fn blank_len(bytes: &[u8]) -> usize
 fn word_len(bytes: &[u8]) -> usize
     ensures within { λ r. ⌜ r ≤ length (now (bytes .entry)) ⌝ }
     ensures keeps { λ r. ⌜ tokens-from (word []) (now (bytes .entry)) ≡ take r (now (bytes .entry)) ∷ tokens (drop r (now (bytes .entry))) ⌝ }
+    ensures letters { λ r. ⌜ letters (take r (now (bytes .entry))) ≡ true ⌝ }
     ensures begun { λ r. ⌜ (letter (getD (now (bytes .entry)) 0 0) ≡ true → 0 < length (now (bytes .entry)) → 0 < r) ⌝ }
 {
     let mut n = 0;

@@ -1,2 +1,3 @@
 // The text format: tokens, and the declarations that they say.
 pub mod lexer;
+pub mod scan;

@@ -20,7 +20,7 @@ returns-in-Some c =
       first = sign-at bs (c .if-bytes-gt1 .taken) (c .pre .solid) (c .pre .symbol) (j .0) ∙ ap₂ (λ w (r : List ℕ). w ∷ tokens r) (sym (j .1)) (sym (take-rest bs 2));
       shorter = omega (arith, r, e, c .if-bytes-gt1 .taken);
       some-bytes = omega (arith, e);
-      no-word = j .2 }
+      formed = j .2 }
 
 pub returns : need.returns
 returns c =
@@ -32,4 +32,4 @@ returns c =
         ∙ ap (λ (r : List ℕ). (getD bs 0 0 ∷ []) ∷ tokens r) (sym (take-rest bs 1));
       shorter = omega (arith, r, c .pre .some);
       some-bytes = omega arith;
-      no-word = c .pre .symbol }
+      formed = c .pre .symbol }

@@ -20,4 +20,4 @@ returns c =
       first = word-at bs (c .pre .some) (c .pre .solid) l (c .if-bytes-eq95 .left) ∙ w .keeps ∙ ap (λ (r : List ℕ). take n bs ∷ tokens r) (sym (take-rest bs n));
       shorter = omega (arith, r, t, w .within);
       some-bytes = omega (arith, t, w .within, w .begun l (c .pre .some));
-      no-word = tt }
+      formed = w .letters }

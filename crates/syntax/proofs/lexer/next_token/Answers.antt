@@ -20,4 +20,4 @@ returns c =
       first = c .blank-len-start .ensures .keeps ∙ ap tokens (sym (take-rest bs n)) ∙ f .first;
       shorter = omega (arith, f .shorter, r);
       some-bytes = f .some-bytes;
-      no-word = f .no-word }
+      formed = f .formed }
