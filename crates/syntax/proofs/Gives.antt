@@ -1,8 +1,8 @@
 -- Gives o Q: if the option o has a value, Q holds of it. How this goes through the ways in which the readers are composed:
 -- each lemma takes what is known of the first part, and what then follows of the rest.
-use mathlib.Core.Path.{_≡_, refl, sym, subst as tr}
+use mathlib.Core.Path.{_≡_, refl, subst as tr}
 use mathlib.Core.Bool.{Bool, true, false, not, cond}
-use mathlib.Core.List.{List, [], _∷_}
+use mathlib.Core.List.{List}
 use mathlib.Core.Option.{Option, some, none, Option·some-injective}
 use Prim.Native.Nat.{ℕ}
 use native.Mathlib.Omega.{arith}
@@ -41,10 +41,20 @@ pub by-cond : {C : Type 0} {Q : C → Type 0} {c d : Option C} (b : Bool) → (T
 by-cond true h k = h tt
 by-cond false h k = k tt
 
--- Nothing is asked of the value.
+-- Of any value nothing is asked.
 pub any : {A : Type 0} {o : Option A} → Gives o (λ x. Unit)
 any = record { found = λ x e. tt }
 
 -- What follows from what is given.
 pub so : {A : Type 0} {P Q : A → Type 0} {o : Option A} → Gives o P → ((x : A) → P x → Q x) → Gives o Q
 so g k = record { found = λ x e. k x (g .found x e) }
+
+-- What follows when the first part is known.
+pub then-is : {A C : Type 0} (o : Option (A × List Name)) (f : A → List Name → Option C) {a : A} {us : List Name} {z : Option C} → o ≡ some (a, us) → f a us ≡ z → then o f ≡ z
+then-is o f e k = rw e k
+pub option-is : {A C : Type 0} (o : Option A) (c : C) (f : A → C) {x : A} {z : C} → o ≡ some x → f x ≡ z → option o c f ≡ z
+option-is o c f e k = rw e k
+pub option-not : {A C : Type 0} (o : Option A) (c : C) (f : A → C) {z : C} → o ≡ none → c ≡ z → option o c f ≡ z
+option-not o c f e k = rw e k
+pub bind-not : {A C : Type 0} (o : Option A) (f : A → Option C) → o ≡ none → bind o f ≡ none
+bind-not o f e = rw e refl

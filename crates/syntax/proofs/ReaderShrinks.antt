@@ -1,14 +1,14 @@
 -- What a reader leaves is shorter than what it was given; for rows, arguments, parameters and hide it is no longer.
 -- First as statements on whole readers, at the end as statements on what is read.
-use mathlib.Core.Path.{_≡_, refl}
+use mathlib.Core.Path.{_≡_}
 use mathlib.Core.List.{List, [], _∷_}
-use mathlib.Core.Option.{Option, some, none}
+use mathlib.Core.Option.{some}
 use Prim.Native.Nat.{ℕ, zero, suc, _≤_, _<_}
 use native.Mathlib.Omega.{arith}
 use lib.ListN.{length}
 use Rattle.syntax.specs.Surface.{Name, Expr, Param, ConDecl, Decl, same}
 use Rattle.syntax.specs.Grammar.{is-name, is-indexed}
-use Rattle.syntax.specs.Reader.{Readers, eat, read-name, read-number, read-binder, read-dots, read-indexed, read-word, read-atom, read-row, read-arrow, read-pi, read-lam, read-term, read-args, read-intro, read-have, read-exact, read-apply, read-script, readers, read-params, read-cons, read-hide, read-def, read-axiom, read-data, read-decl, starts-atom, number-of}
+use Rattle.syntax.specs.Reader.{Readers, eat, read-name, read-number, read-binder, read-dots, read-word, read-atom, read-row, read-arrow, read-pi, read-lam, read-term, read-args, read-intro, read-have, read-exact, read-apply, read-script, readers, read-params, read-cons, read-hide, read-def, read-axiom, read-data, read-decl, starts-atom, number-of}
 use Rattle.syntax.proofs.Gives.{Gives, at-none, at-some, by-then, by-bind, by-option, by-cond, any, so}
 
 -- What is left has fewer than n tokens; at most n.
@@ -37,7 +37,9 @@ dots-below w ts = by-then (number-below ts) λ n us p. by-option (eat-below _ us
 
 word-below : (ts : List Name) → Gives (read-word ts) (Below (length ts))
 word-below [] = at-none
-word-below (w ∷ ts) = by-cond (is-indexed w) (λ h. by-option (eat-below _ ts) (by-cond (is-name w) (λ i. at-some (omega arith)) (λ i. at-none)) (λ us p. so (dots-below w us) λ q u. omega arith)) (λ h. at-none)
+word-below (w ∷ ts) = by-cond (is-indexed w) (λ h. by-option (eat-below _ ts)
+    (by-cond (is-name w) (λ i. at-some (omega arith)) (λ i. at-none))
+    (λ us p. so (dots-below w us) λ q u. omega arith)) (λ h. at-none)
 
 -- The four readers that call one another.
 record Shrink (r : Readers) : Type 0 where

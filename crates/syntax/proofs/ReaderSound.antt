@@ -1,17 +1,17 @@
 -- What a reader finds is what the grammar says of the tokens that it passed over.
 -- First as statements on whole readers, at the end as statements on what is read.
 use mathlib.Core.Path.{_≡_, refl, sym, ap, _∙_, subst as tr}
-use mathlib.Core.Bool.{Bool, true, false, _&&_, _||_, not, cond}
+use mathlib.Core.Bool.{_&&_}
 use mathlib.Core.List.{List, [], _∷_, _++_, append-assoc, append-nil}
-use mathlib.Core.Option.{Option, some, none}
-use Prim.Native.Nat.{ℕ, zero, suc, _≤_, _<_}
+use mathlib.Core.Option.{some}
+use Prim.Native.Nat.{ℕ, zero, suc}
 use native.Mathlib.Omega.{arith}
 use lib.ListN.{length}
 use lib.Dec.{T, leb}
-use Rattle.syntax.specs.Surface.{Name, same, Expr, e-name, e-at, e-full, e-sort, e-pi, e-lam, e-app, e-hole, e-by, e-have, Param, ConDecl, Decl, d-def, d-axiom, d-data}
-use Rattle.syntax.specs.Grammar.{k-fun, k-type, k-def, k-theorem, k-axiom, k-data, k-hide, k-again, k-by, k-intro, k-exact, k-have, k-apply, t-lp, t-rp, t-lc, t-rc, t-semi, t-colon, t-dot, t-at, t-hole, t-is, t-so, t-to, is-name, is-indexed, digits, IsNumber, IsDots, x-one, x-two, IsExpr, x-tighter, x-fun, x-pi, x-arrow, x-app, x-name, x-at, x-full, x-sort, x-hole, x-brackets, x-by, IsScript, x-exact, x-intro, x-have, x-apply, IsArgs, x-no-args, x-arg, IsParams, x-no-params, x-param, IsCons, x-no-cons, x-con, IsHide, x-no-hide, x-hide, IsDecl, x-def, x-theorem, x-axiom, x-data, IsDecls, x-no-decls, x-decl}
-use Rattle.syntax.specs.Reader.{Readers, eat, read-name, number-of, read-number, read-binder, read-dots, read-indexed, read-word, read-atom, read-row, read-arrow, read-pi, read-lam, read-term, read-args, read-intro, read-have, read-exact, read-apply, read-script, readers, read-params, read-cons, read-hide, read-def, read-axiom, read-data, read-decl, read-decls, starts-atom}
-use Rattle.syntax.proofs.Gives.{Gives, at-none, at-some, by-then, by-bind, by-option, by-cond, any, so}
+use Rattle.syntax.specs.Surface.{Name, same, Expr, e-app, Param, ConDecl, Decl, d-def}
+use Rattle.syntax.specs.Grammar.{k-fun, k-type, k-def, k-theorem, k-axiom, k-data, k-hide, k-again, k-by, k-intro, k-exact, k-have, k-apply, t-lp, t-rp, t-lc, t-rc, t-semi, t-colon, t-dot, t-at, t-hole, t-is, t-so, t-to, is-name, is-indexed, IsNumber, x-one, x-two, IsExpr, x-tighter, x-fun, x-pi, x-arrow, x-app, x-name, x-at, x-full, x-sort, x-hole, x-brackets, x-by, IsScript, x-exact, x-intro, x-have, x-apply, IsArgs, x-no-args, x-arg, IsParams, x-no-params, x-param, IsCons, x-no-cons, x-con, IsHide, x-no-hide, x-hide, IsDecl, x-def, x-theorem, x-axiom, x-data, IsDecls, x-no-decls, x-decl}
+use Rattle.syntax.specs.Reader.{Readers, eat, read-name, number-of, read-number, read-binder, read-dots, read-word, read-atom, read-row, read-arrow, read-pi, read-lam, read-term, read-args, read-intro, read-have, read-exact, read-apply, read-script, readers, read-params, read-cons, read-hide, read-def, read-axiom, read-data, read-decl, read-decls, starts-atom}
+use Rattle.syntax.proofs.Gives.{Gives, at-none, at-some, by-then, by-bind, by-option, by-cond, so}
 use Rattle.syntax.proofs.Same.{same-is}
 
 -- The tokens ts begin with some that R says are the value, and the rest is what is left.
@@ -28,7 +28,8 @@ name-front (w ∷ ts) = by-cond (is-name w) (λ h. at-some (refl, h)) (λ h. at-
 
 number-front : (ts : List Name) → Gives (read-number ts) (λ p. (w : Name) × (ts ≡ w ∷ p .1) × IsNumber w (p .0))
 number-front [] = at-none
-number-front (w ∷ ts) = by-option {P = λ n. IsNumber w n} {o = number-of w} (by-cond (leb 1 (length w) && leb (length w) 3) (λ h. record { found = λ n e. (h, e) }) (λ h. at-none)) at-none λ n i. at-some (w, refl, i)
+number-front (w ∷ ts) = by-option {P = λ n. IsNumber w n} {o = number-of w}
+    (by-cond (leb 1 (length w) && leb (length w) 3) (λ h. record { found = λ n e. (h, e) }) (λ h. at-none)) at-none λ n i. at-some (w, refl, i)
 
 binder-front : (ts : List Name) → Gives (read-binder ts) (λ p. (ts ≡ t-lp ∷ p .0 ∷ t-colon ∷ p .1) × T (is-name (p .0)))
 binder-front ts = by-bind (eat-front _ ts) λ us p. by-then (name-front us) λ x vs q. by-bind (eat-front _ vs) λ ws r. at-some (cc, q .1)

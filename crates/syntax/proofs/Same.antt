@@ -1,9 +1,9 @@
--- Tests on names: same is equality, and a test that passes is true, one that fails false.
-use mathlib.Core.Path.{_≡_, refl, sym, ap, ap₂, subst as tr}
-use mathlib.Core.Bool.{Bool, true, false, _&&_, _||_, not, cond}
-use mathlib.Core.List.{List, [], _∷_}
-use Prim.Native.Nat.{ℕ, suc}
-use lib.Dec.{T, eqb, eqb→eq, eqb-refl}
+-- Tests: one that passes is true and one that fails is false, and so through their and and or;
+-- names for which same passes are equal.
+use mathlib.Core.Path.{_≡_, refl, ap₂}
+use mathlib.Core.Bool.{Bool, true, false, _&&_, _||_, not}
+use mathlib.Core.List.{[], _∷_}
+use lib.Dec.{T, eqb, eqb→eq}
 use Rattle.syntax.specs.Surface.{Name, same}
 
 pub to-true : (b : Bool) → T b → b ≡ true
@@ -22,16 +22,12 @@ pub and-right : (a b : Bool) → T (a && b) → T b
 and-right true b t = t
 and-right false b t = absurd t
 
-pub and-both : (a b : Bool) → T a → T b → T (a && b)
-and-both true b t u = u
-and-both false b t u = absurd t
+pub or-left : (a b : Bool) → T a → T (a || b)
+or-left true b t = tt
+or-left false b t = absurd t
 
 pub same-is : (x y : Name) → T (same x y) → x ≡ y
 same-is [] [] t = refl
 same-is [] (y ∷ ys) t = absurd t
 same-is (x ∷ xs) [] t = absurd t
 same-is (x ∷ xs) (y ∷ ys) t = ap₂ {C = Name} _∷_ (eqb→eq x y (and-left _ _ t)) (same-is xs ys (and-right (eqb x y) _ t))
-
-pub same-self : (x : Name) → T (same x x)
-same-self [] = tt
-same-self (x ∷ xs) = and-both (eqb x x) _ (eqb-refl x) (same-self xs)

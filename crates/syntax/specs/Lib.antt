@@ -5,3 +5,4 @@ pub mod Grammar
 pub mod Tree
 pub mod Reader
 pub mod Lexing
+pub mod Writing

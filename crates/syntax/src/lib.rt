@@ -1,3 +1,4 @@
 // The text format: tokens, and the declarations that they say.
 pub mod lexer;
 pub mod scan;
+mod write;
