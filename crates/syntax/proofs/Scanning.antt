@@ -9,8 +9,9 @@ use native.Mathlib.Numerals.{add-one}
 use lib.Dec.{eqb, leb}
 use lib.ListN.{length, take, drop, getD, drop-of-length-le}
 use lib.Seq.{drop-cons}
-use Rattle.std.proofs.shelf.Tests.{ne-eqb, eq-eqb, and-from, and-parts, and-left, and-right, or-from, both-ways, cond-true, cond-false, le-leb, lt-leb}
-use Rattle.syntax.specs.Surface.{Name, same, listed}
+use Rattle.std.proofs.shelf.Tests.{ne-eqb, eq-eqb, and-from, and-parts, and-left, and-right, or-from, both-ways, cond-true, cond-false, le-leb, lt-leb, leb-true}
+use Rattle.syntax.proofs.Same.{same-is}
+use Rattle.syntax.specs.Surface.{Name, same, listed, w-eq, w-same, w-along}
 use Rattle.syntax.specs.Tokens.{letter}
 use Rattle.syntax.specs.Grammar.{is-name, is-indexed, letters, digits, digit-first, reserved}
 use Rattle.syntax.specs.Reader.{number-of}
@@ -61,3 +62,20 @@ digits-none w i v h e p = p ∙ ap (digits v) (drop-cons w i 0 h) ∙ cond-false
 -- One to three bytes: the number is what their digits say.
 pub number-digits : (w : Name) → (length w ≡ 0 → ⊥) → length w ≤ 3 → number-of w ≡ digits 0 w
 number-digits w h k = cond-true _ _ _ (and-from _ _ (le-leb 1 (length w) (omega arith)) (le-leb (length w) 3 k))
+
+-- Names that test the same are equal.
+pub same-true : (x y : Name) → same x y ≡ true → x ≡ y
+same-true x y p = same-is x y (rw p tt)
+
+-- A name has at most 32 bytes, and so has a word before numbers.
+pub name-short : (w : Name) → is-name w ≡ true → length w ≤ 32
+name-short w p = leb-true (length w) 32 (and-parts _ _ (and-parts (leb 1 (length w)) _ p .1) .0)
+pub indexed-short : (w : Name) → is-indexed w ≡ true → length w ≤ 32
+indexed-short w p = go (is-name w) (same w w-eq) (same w w-same) (same w w-along) refl refl refl refl
+  where
+    go : (a b c d : Bool) → is-name w ≡ a → same w w-eq ≡ b → same w w-same ≡ c → same w w-along ≡ d → length w ≤ 32
+    go true b c d q₁ q₂ q₃ q₄ = name-short w q₁
+    go false true c d q₁ q₂ q₃ q₄ = omega (arith, ap length (same-true w w-eq q₂))
+    go false false true d q₁ q₂ q₃ q₄ = omega (arith, ap length (same-true w w-same q₃))
+    go false false false true q₁ q₂ q₃ q₄ = omega (arith, ap length (same-true w w-along q₄))
+    go false false false false q₁ q₂ q₃ q₄ = absurd (both-ways _ (rw (q₁, q₂, q₃, q₄) refl) p)

@@ -84,6 +84,8 @@ pub record WordAt (test : Name → Bool) (bs : List ℕ) (w : WordRest) : Type 0
   pub first : tokens bs ≡ w .name .now ∷ tokens (w .rest .now)
   pub shorter : length (w .name .now) + length (w .rest .now) ≤ length bs
   pub some-bytes : 1 ≤ length (w .name .now)
+  pub short : length (w .name .now) ≤ 32
+  pub formed : letters (w .name .now) ≡ true
 abbrev pub NoWordAt : (Name → Bool) → List Name → Type 0
 NoWordAt test [] = Unit {0}
 NoWordAt test (w ∷ ts) = test w ≡ false
@@ -110,6 +112,7 @@ pub record BinderAt (bs : List ℕ) (w : WordRest) : Type 0 where
   pub reads : read-binder (tokens bs) ≡ some (w .name .now, tokens (w .rest .now))
   pub shorter : 2 + (length (w .name .now) + length (w .rest .now)) ≤ length bs
   pub some-bytes : 1 ≤ length (w .name .now)
+  pub short : length (w .name .now) ≤ 32
 abbrev pub FindsBinder : List ℕ → Option WordRest → Type 0
 FindsBinder bs None = read-binder (tokens bs) ≡ none
 FindsBinder bs (Some w) = BinderAt bs w
