@@ -11,3 +11,5 @@ pub mod Examples
 pub mod Cutting
 pub mod Scanning
 pub mod Appending
+pub mod TreeWords
+pub mod Following

@@ -69,9 +69,10 @@ reserved-second = k-hide ∷ k-again ∷ k-by ∷ k-intro ∷ k-exact ∷ k-have
 abbrev pub reserved-third : List Name
 reserved-third = k-apply ∷ w-eq ∷ w-same ∷ w-along ∷ t-hole ∷ []
 
--- The bytes r are what is left of bs behind something read.
-abbrev pub Behind : List ℕ → List ℕ → Type 0
-Behind bs r = length r < length bs
+-- The bytes r are what is left of bs behind something read: fewer bytes and fewer tokens.
+pub record Behind (bs r : List ℕ) : Type 0 where
+  pub shorter : length r < length bs
+  pub fewer : length (tokens r) < length (tokens bs)
 
 -- A given token, if it comes first.
 abbrev pub Eats : Name → List ℕ → Option (RefT (List ℕ)) → Type 0
@@ -83,6 +84,7 @@ pub record WordAt (test : Name → Bool) (bs : List ℕ) (w : WordRest) : Type 0
   pub passes : test (w .name .now) ≡ true
   pub first : tokens bs ≡ w .name .now ∷ tokens (w .rest .now)
   pub shorter : length (w .name .now) + length (w .rest .now) ≤ length bs
+  pub fewer : length (tokens (w .rest .now)) < length (tokens bs)
   pub some-bytes : 1 ≤ length (w .name .now)
   pub short : length (w .name .now) ≤ 32
   pub formed : letters (w .name .now) ≡ true
@@ -101,7 +103,7 @@ ValueOf w (Some n) = (number-of w ≡ some n) × (n < 1000)
 -- A number, if one comes first.
 pub record NumberAt (bs : List ℕ) (n : Number) : Type 0 where
   pub reads : read-number (tokens bs) ≡ some (n .value, tokens (n .rest .now))
-  pub shorter : Behind bs (n .rest .now)
+  pub behind : Behind bs (n .rest .now)
   pub small : n .value < 1000
 abbrev pub FindsNumber : List ℕ → Option Number → Type 0
 FindsNumber bs None = read-number (tokens bs) ≡ none
@@ -111,6 +113,7 @@ FindsNumber bs (Some n) = NumberAt bs n
 pub record BinderAt (bs : List ℕ) (w : WordRest) : Type 0 where
   pub reads : read-binder (tokens bs) ≡ some (w .name .now, tokens (w .rest .now))
   pub shorter : 2 + (length (w .name .now) + length (w .rest .now)) ≤ length bs
+  pub fewer : length (tokens (w .rest .now)) < length (tokens bs)
   pub some-bytes : 1 ≤ length (w .name .now)
   pub short : length (w .name .now) ≤ 32
 abbrev pub FindsBinder : List ℕ → Option WordRest → Type 0

@@ -6,3 +6,4 @@ pub mod Tree
 pub mod Reader
 pub mod Lexing
 pub mod Writing
+pub mod Parsing

@@ -102,7 +102,7 @@ fn is_reserved(word: &[u8]) -> bool
 }
 
 // May the word be a name?
-fn is_name(word: &[u8]) -> bool
+pub fn is_name(word: &[u8]) -> bool
     requires { ⌜ letters (now word) ≡ true ⌝ }
     ensures { λ r. ⌜ r ≡ is-name (now (word .entry)) ⌝ }
 {

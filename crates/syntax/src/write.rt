@@ -36,6 +36,25 @@ pub fn push_name(out: &mut [u32], len: usize, name: &[u8]) -> usize
     push_bytes(out, at, name)
 }
 
+// A tag and a name.
+pub fn push_named(out: &mut [u32], len: usize, tag: u32, name: &[u8]) -> usize
+    requires room { ⌜ len + (2 + length (now name)) ≤ length (now out) ⌝ }
+    requires short { ⌜ length (now name) ≤ 32 ⌝ }
+    ensures { λ r. ⌜ Appends (now (out .entry)) len (tag ∷ (length (now (name .entry)) ∷ now (name .entry))) (now (out .exit)) r ⌝ }
+{
+    let at = push(out, len, tag);
+    push_name(out, at, name)
+}
+
+// Two words.
+pub fn push_two(out: &mut [u32], len: usize, first: u32, second: u32) -> usize
+    requires { ⌜ len + 2 ≤ length (now out) ⌝ }
+    ensures { λ r. ⌜ Appends (now (out .entry)) len (first ∷ (second ∷ [])) (now (out .exit)) r ⌝ }
+{
+    let at = push(out, len, first);
+    push(out, at, second)
+}
+
 // The same word so many times.
 fn push_times(out: &mut [u32], len: usize, word: u32, count: usize) -> usize
     requires { ⌜ len + count ≤ length (now out) ⌝ }
