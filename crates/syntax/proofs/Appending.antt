@@ -35,7 +35,7 @@ replicate-more zero w = refl
 replicate-more (suc i) w = ap (λ (r : List ℕ). w ∷ r) (replicate-more i w) ∙ ap (λ (k : ℕ). replicate k w) (let z : suc (i + 1) ≡ suc i + 1 = omega arith in z)
 
 -- Words that stand behind what was written, turned to its front: what stood from start to len, and behind it new words up to end.
-front : (o₁ o₂ : List ℕ) (start len end : ℕ) (new : List ℕ) → start ≤ len → len ≤ length o₁ → Appends o₁ len new o₂ end → take start o₂ ≡ take start o₁
+pub front : (o₁ o₂ : List ℕ) (start len end : ℕ) (new : List ℕ) → start ≤ len → len ≤ length o₁ → Appends o₁ len new o₂ end → take start o₂ ≡ take start o₁
 front o₁ o₂ start len end new h k p =
     sym (take-take start end o₂ (omega (arith, p .ends)))
     ∙ ap (take start) (p .words)
@@ -58,3 +58,11 @@ append-front o₁ o₂ r start len end new k h l e q p t =
     record {
       ends = omega (arith, p .ends, u);
       words = take-putMid start (end - start) o₂ r end (omega (arith, ap length t′)) (omega (arith, p .ends)) ∙ ap₂ _++_ (front o₁ o₂ start len end new h l p) t′ }
+
+-- Words put before what was written last.
+pub append-before : (before o o₁ : List ℕ) (len end end₁ : ℕ) (x y : List ℕ) → len ≤ length before → Appends before len x o end → Appends o len (y ++ drop len (take end o)) o₁ end₁ → Appends before len (y ++ x) o₁ end₁
+append-before before o o₁ len end end₁ x y l p q =
+    let e : drop len (take end o) ≡ x = ap (drop len) (p .words) ∙ drop-at (take len before) x len (length-take len before ∙ (let z : min len (length before) ≡ len = omega arith in z)) in
+    record {
+      ends = q .ends ∙ ap (λ (z : List ℕ). len + length (y ++ z)) e;
+      words = q .words ∙ ap₂ _++_ (front before o len len end x (omega arith) l p) (ap (λ (z : List ℕ). y ++ z) e) }

@@ -13,3 +13,6 @@ pub mod Scanning
 pub mod Appending
 pub mod TreeWords
 pub mod Following
+pub mod TermReadings
+pub mod Chains
+pub mod Rows

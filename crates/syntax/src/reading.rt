@@ -16,6 +16,13 @@ pub struct Read<'a> {
     pub stage: u32,
 }
 
+// A term is read link by link: a binder, whose body comes next, or the last part.
+#[derive(Clone, Copy)]
+pub enum Link<'a> {
+    More(Read<'a>),
+    Last(Read<'a>),
+}
+
 // The bytes behind a token that must come first.
 pub fn expect<'a>(bytes: &'a [u8], wanted: &[u8], problem: Problem) -> Result<&'a [u8], Stop>
     ensures { λ r. ⌜ Expects (now (wanted .entry)) (now (bytes .entry)) r ⌝ }

@@ -1,0 +1,2 @@
+pub mod ChecksWf
+pub mod Have

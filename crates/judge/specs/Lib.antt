@@ -1,0 +1,2 @@
+-- What the judge promises of its answers.
+pub mod Promise
