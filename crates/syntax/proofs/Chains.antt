@@ -93,14 +93,14 @@ module _ (s : ℕ → List Name → Option (Expr × List Name)) (g : Readers →
     → ((k : ℕ) → 0 + length ts₁ ≤ k → g (readers k) ts₁ ≡ wrap f (s k ts₂)) → (k : ℕ) × (length ts₂ < k) × (s n ts ≡ wraps (fs ++ (f ∷ [])) (s k ts₂))
   one-more ts ts₁ ts₂ fs f n zero h e l o = absurd (let z : ⊥ = omega arith in z)
   one-more ts ts₁ ts₂ fs f n (suc m) h e l o = (m, omega arith, e ∙ ap (wraps fs) (at-suc m ts₁ ∙ o m (omega arith)) ∙ sym (wraps-last fs f (s m ts₂)))
-  pub chain-more : (bs₀ before : List ℕ) (len : ℕ) (o o₁ bs : List ℕ) (end stage : ℕ) (q : Read) → Chain s bs₀ before len o bs end stage
-    → Opened 0 g s (tokens bs) (4 * length bs) o end o₁ q → Chain s bs₀ before len o₁ (q .rest .now) (q .len) (max stage (q .stage))
-  chain-more bs₀ before len o o₁ bs end stage q c d =
+  pub chain-more : (bs₀ before : List ℕ) (len : ℕ) (o o₁ bs : List ℕ) (end stage stage₁ : ℕ) (q : Read) → stage₁ ≡ max stage (q .stage) → Chain s bs₀ before len o bs end stage
+    → Opened 0 g s (tokens bs) (4 * length bs) o end o₁ q → Chain s bs₀ before len o₁ (q .rest .now) (q .len) stage₁
+  chain-more bs₀ before len o o₁ bs end stage stage₁ q e c d =
       record {
         frames = c .frames ++ (d .frame ∷ []);
         links = λ n h. let l = c .links n h in one-more _ _ _ (c .frames) (d .frame) n (l .0) (l .1) (l .2) (d .fewer) (d .opens);
         wrote = append-as _ _ _ _ _ _ (words-last (c .frames) (d .frame)) (append-then before o o₁ len end (q .len) _ _ (c .wrote) (d .wrote));
-        stages = ap₂ max (c .stages) (d .stage) ∙ sym (stage-last (c .frames) (d .frame));
+        stages = e ∙ ap₂ max (c .stages) (d .stage) ∙ sym (stage-last (c .frames) (d .frame));
         fewer = omega (arith, c .fewer, d .fewer);
         room = omega (arith, c .room, d .room) }
 

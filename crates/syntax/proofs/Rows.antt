@@ -14,7 +14,7 @@ use Rattle.syntax.specs.Reader.{Readers, readers}
 use Rattle.syntax.specs.Writing.{Appends}
 use Rattle.syntax.specs.Parsing.{Done, FindsNone, expr-words, lower}
 use Rattle.syntax.specs.declared.reading.Read.{Read}
-use Rattle.syntax.proofs.Appending.{append-then, append-as, append-before}
+use Rattle.syntax.proofs.Appending.{append-none, append-to, append-then, append-as, append-before}
 use Rattle.syntax.proofs.TreeWords.{expr-then}
 
 -- A term used on several.
@@ -52,91 +52,87 @@ apps-stage : (f : Expr) (as₁ : List Expr) → expr-stage (e-apps f as₁) ≡ 
 apps-stage f [] = omega arith
 apps-stage f (a ∷ as₁) = apps-stage (e-app f a) as₁ ∙ (let z : max (max (expr-stage f) (expr-stage a)) (args-stage as₁) ≡ max (expr-stage f) (max (expr-stage a) (args-stage as₁)) = omega arith in z)
 
--- A first term and some arguments were read from the tokens ts₀ as f does, and the bytes bs are left, which s goes on with.
-pub record Row (f : ℕ → List Name → Option (Expr × List Name)) (s : ℕ → Expr → List Name → Option (Expr × List Name))
-    (ts₀ : List Name) (budget : ℕ) (before : List ℕ) (len : ℕ) (after bs : List ℕ) (end stage count : ℕ) : Type 0 where
-  pub first : Expr
+-- Some arguments were read from the bytes bs₁, with which s goes on from any term; the bytes bs are left.
+pub record Row (s : ℕ → Expr → List Name → Option (Expr × List Name)) (bs₁ before : List ℕ) (len : ℕ) (after bs : List ℕ) (end stage₁ stage count : ℕ) : Type 0 where
   pub args : List Expr
-  pub links : (n : ℕ) → length ts₀ < n → (m : ℕ) × (length (tokens bs) < m) × (f n ts₀ ≡ s m (e-apps first args) (tokens bs))
-  pub wrote : Appends before len (expr-words first ++ args-words args) after end
-  pub stages : stage ≡ max (expr-stage first) (args-stage args)
+  pub links : (h : Expr) (n : ℕ) → length (tokens bs₁) < n → (m : ℕ) × (length (tokens bs) < m) × (s n h (tokens bs₁) ≡ s m (e-apps h args) (tokens bs))
+  pub wrote : Appends before len (args-words args) after end
+  pub stages : stage ≡ max stage₁ (args-stage args)
   pub counts : count ≡ length args
-  pub fewer : 1 + length (tokens bs) ≤ length ts₀
-  pub room : end + (count + (1 + 4 * length bs)) ≤ len + budget
+  pub fewer : length (tokens bs) ≤ length (tokens bs₁)
+  pub room : end + (count + 4 * length bs) ≤ len + 4 * length bs₁
 
--- Where the first call goes one level down.
-pub lower-link : (g : Readers → List Name → Option (Expr × List Name)) (s : ℕ → Expr → List Name → Option (Expr × List Name)) (ts₀ ts : List Name) (a : Expr)
-  → ((n : ℕ) → length ts₀ ≤ n → g (readers n) ts₀ ≡ s n a ts) → 1 + length ts ≤ length ts₀ → (n : ℕ) → length ts₀ < n → (m : ℕ) × (length ts < m) × (lower g n ts₀ ≡ s m a ts)
-lower-link g s ts₀ ts a e l zero h = absurd (let z : ⊥ = omega arith in z)
-lower-link g s ts₀ ts a e l (suc n) h = (n, omega arith, e n (omega arith))
-
-module _ (f : ℕ → List Name → Option (Expr × List Name)) (s : ℕ → Expr → List Name → Option (Expr × List Name)) where
-  -- The first term.
-  pub row-start : (ts₀ : List Name) (budget : ℕ) (before : List ℕ) (len : ℕ) (after : List ℕ) (q : Read) (a : Expr)
-    → ((n : ℕ) → length ts₀ < n → (m : ℕ) × (length (tokens (q .rest .now)) < m) × (f n ts₀ ≡ s m a (tokens (q .rest .now))))
-    → Appends before len (expr-words a) after (q .len) → q .stage ≡ expr-stage a → 1 + length (tokens (q .rest .now)) ≤ length ts₀ → q .len + (1 + 4 * length (q .rest .now)) ≤ len + budget
-    → Row f s ts₀ budget before len after (q .rest .now) (q .len) (q .stage) 0
-  row-start ts₀ budget before len after q a e w st l r =
+module _ (s : ℕ → Expr → List Name → Option (Expr × List Name)) where
+  -- No argument yet.
+  pub row-start : (bs before : List ℕ) (len stage : ℕ) → Row s bs before len before bs len stage stage 0
+  row-start bs before len stage =
       record {
-        first = a; args = [];
-        links = e;
-        wrote = append-as _ _ _ _ _ _ (sym (append-nil (expr-words a))) w;
-        stages = omega (arith, st); counts = refl; fewer = l; room = omega (arith, r) }
-
-  -- No argument is read where one must be: there is no term.
-  pub row-none : (ts₀ : List Name) (budget : ℕ) (before : List ℕ) (len : ℕ) (o bs : List ℕ) (end stage count : ℕ) → Row f s ts₀ budget before len o bs end stage count
-    → ((h : Expr) (k : ℕ) → length (tokens bs) ≤ k → s (suc k) h (tokens bs) ≡ none) → FindsNone f ts₀
-  row-none ts₀ budget before len o bs end stage count c e n h = let k = c .links n h in k .2 ∙ at-suc (k .0) (k .1)
-    where
-      at-suc : (m : ℕ) → length (tokens bs) < m → s m (e-apps (c .first) (c .args)) (tokens bs) ≡ none
-      at-suc zero l = absurd (let z : ⊥ = omega arith in z)
-      at-suc (suc m) l = e (e-apps (c .first) (c .args)) m (omega arith)
+        args = []; links = λ h n l. (n, l, refl);
+        wrote = append-to before before len (len + 0) len [] (omega arith) (append-none before len);
+        stages = omega arith; counts = refl; fewer = omega arith; room = omega arith }
 
   -- One more argument.
-  next-link : (ts₀ ts₁ ts₂ : List Name) (h a : Expr) (n m : ℕ) → length ts₁ < m → f n ts₀ ≡ s m h ts₁ → 1 + length ts₂ ≤ length ts₁
-    → ((k : ℕ) → length ts₁ ≤ k → s (suc k) h ts₁ ≡ s k (e-app h a) ts₂) → (k : ℕ) × (length ts₂ < k) × (f n ts₀ ≡ s k (e-app h a) ts₂)
-  next-link ts₀ ts₁ ts₂ h a n zero l e u o = absurd (let z : ⊥ = omega arith in z)
-  next-link ts₀ ts₁ ts₂ h a n (suc m) l e u o = (m, omega arith, e ∙ o m (omega arith))
-  pub row-more : (ts₀ : List Name) (budget : ℕ) (before : List ℕ) (len : ℕ) (o o₁ bs bs₁ : List ℕ) (end end₁ stage stage₁ count : ℕ) (a : Expr)
-    → Row f s ts₀ budget before len o bs end stage count
-    → ((h : Expr) (k : ℕ) → length (tokens bs) ≤ k → s (suc k) h (tokens bs) ≡ s k (e-app h a) (tokens bs₁))
-    → Appends o end (expr-words a) o₁ end₁ → stage₁ ≡ expr-stage a → 1 + length (tokens bs₁) ≤ length (tokens bs) → end₁ + (1 + 4 * length bs₁) ≤ end + 4 * length bs
-    → Row f s ts₀ budget before len o₁ bs₁ end₁ (max stage stage₁) (count + 1)
-  row-more ts₀ budget before len o o₁ bs bs₁ end end₁ stage stage₁ count a c e w st l r =
+  next-link : (ts₀ ts₁ ts₂ : List Name) (g h a : Expr) (n m : ℕ) → length ts₁ < m → s n g ts₀ ≡ s m h ts₁ → 1 + length ts₂ ≤ length ts₁
+    → ((k : ℕ) → length ts₁ ≤ k → s (suc k) h ts₁ ≡ s k (e-app h a) ts₂) → (k : ℕ) × (length ts₂ < k) × (s n g ts₀ ≡ s k (e-app h a) ts₂)
+  next-link ts₀ ts₁ ts₂ g h a n zero l e u o = absurd (let z : ⊥ = omega arith in z)
+  next-link ts₀ ts₁ ts₂ g h a n (suc m) l e u o = (m, omega arith, e ∙ o m (omega arith))
+  pub row-more : (bs₁ before : List ℕ) (len : ℕ) (o o₁ bs bs₂ : List ℕ) (end end₁ stage₁ stage stage₂ stage₃ count : ℕ) (a : Expr)
+    → Row s bs₁ before len o bs end stage₁ stage count
+    → ((h : Expr) (k : ℕ) → length (tokens bs) ≤ k → s (suc k) h (tokens bs) ≡ s k (e-app h a) (tokens bs₂))
+    → Appends o end (expr-words a) o₁ end₁ → stage₂ ≡ expr-stage a → stage₃ ≡ max stage stage₂ → 1 + length (tokens bs₂) ≤ length (tokens bs) → end₁ + (1 + 4 * length bs₂) ≤ end + 4 * length bs
+    → Row s bs₁ before len o₁ bs₂ end₁ stage₁ stage₃ (count + 1)
+  row-more bs₁ before len o o₁ bs bs₂ end end₁ stage₁ stage stage₂ stage₃ count a c e w st st₃ l r =
       record {
-        first = c .first; args = c .args ++ (a ∷ []);
-        links = λ n h. let k = c .links n h in let j = next-link ts₀ (tokens bs) (tokens bs₁) (e-apps (c .first) (c .args)) a n (k .0) (k .1) (k .2) l (e (e-apps (c .first) (c .args))) in
-          (j .0, j .1, j .2 ∙ ap (λ x. s (j .0) x (tokens bs₁)) (apps-last (c .first) (c .args) a));
-        wrote = append-as _ _ _ _ _ _ (append-assoc (expr-words (c .first)) _ _ ∙ ap (λ (z : List ℕ). expr-words (c .first) ++ z) (args-last (c .args) a)) (append-then before o o₁ len end end₁ _ _ (c .wrote) w);
-        stages = (let z : max stage stage₁ ≡ max (expr-stage (c .first)) (args-stage (c .args ++ (a ∷ []))) = omega (arith, c .stages, st, stage-last (c .args) a) in z);
+        args = c .args ++ (a ∷ []);
+        links = λ g n h. let k = c .links g n h in let j = next-link (tokens bs₁) (tokens bs) (tokens bs₂) g (e-apps g (c .args)) a n (k .0) (k .1) (k .2) l (e (e-apps g (c .args))) in
+          (j .0, j .1, j .2 ∙ ap (λ x. s (j .0) x (tokens bs₂)) (apps-last g (c .args) a));
+        wrote = append-as _ _ _ _ _ _ (args-last (c .args) a) (append-then before o o₁ len end end₁ _ _ (c .wrote) w);
+        stages = (let z : stage₃ ≡ max stage₁ (args-stage (c .args ++ (a ∷ []))) = omega (arith, c .stages, st, st₃, stage-last (c .args) a) in z);
         counts = omega (arith, c .counts, length-append (c .args) (a ∷ []));
         fewer = omega (arith, c .fewer, l);
         room = omega (arith, c .room, r) }
 
-  -- No more arguments: the tags of the uses are put before the words.
-  pub row-end : (ts₀ : List Name) (budget : ℕ) (before : List ℕ) (len : ℕ) (o o₁ bs : List ℕ) (end stage count : ℕ) (p : Read)
-    → p .rest .now ≡ bs → p .stage ≡ stage → len ≤ length before
-    → Row f s ts₀ budget before len o bs end stage count
-    → ((h : Expr) (k : ℕ) → s (suc k) h (tokens bs) ≡ some (h, tokens bs))
-    → Appends o len (replicate count 7 ++ drop len (take end o)) o₁ (p .len)
-    → Done f expr-words expr-stage 1 ts₀ budget before len o₁ p
-  row-end ts₀ budget before len o o₁ bs end stage count p e₁ e₂ l₁ c last w =
-      record {
-        value = e-apps (c .first) (c .args);
-        reads = λ n h. let k = c .links n h in k .2 ∙ at-suc (k .0) (k .1) ∙ ap (λ (z : List ℕ). some (e-apps (c .first) (c .args), tokens z)) (sym e₁);
-        wrote = whole;
-        stage = e₂ ∙ c .stages ∙ sym (apps-stage (c .first) (c .args));
-        fewer = omega (arith, c .fewer, ap (λ (z : List ℕ). length (tokens z)) e₁);
-        room = omega (arith, c .room, whole .ends, c .wrote .ends, ap length e₁, lens) }
+  -- No argument is read where one must be: nothing is found.
+  pub row-none : (bs₁ before : List ℕ) (len : ℕ) (o bs : List ℕ) (end stage₁ stage count : ℕ) → Row s bs₁ before len o bs end stage₁ stage count
+    → ((h : Expr) (k : ℕ) → length (tokens bs) ≤ k → s (suc k) h (tokens bs) ≡ none) → (h : Expr) (n : ℕ) → length (tokens bs₁) < n → s n h (tokens bs₁) ≡ none
+  row-none bs₁ before len o bs end stage₁ stage count c e h n l = let k = c .links h n l in k .2 ∙ at-suc (k .0) (k .1)
     where
-      xs : List ℕ
-      xs = expr-words (c .first) ++ args-words (c .args)
-      at-suc : (m : ℕ) → length (tokens bs) < m → s m (e-apps (c .first) (c .args)) (tokens bs) ≡ some (e-apps (c .first) (c .args), tokens bs)
+      at-suc : (m : ℕ) → length (tokens bs) < m → s m (e-apps h (c .args)) (tokens bs) ≡ none
+      at-suc zero l = absurd (let z : ⊥ = omega arith in z)
+      at-suc (suc m) l = e (e-apps h (c .args)) m (omega arith)
+
+  -- No more arguments behind a first term: the tags of the uses are put before the words.
+  pub row-end : (f₁ f : ℕ → List Name → Option (Expr × List Name)) (ts₀ : List Name) (budget : ℕ) (o₀ : List ℕ) (len : ℕ) (o₁ : List ℕ) (q : Read) (o o₂ bs : List ℕ) (end stage count : ℕ) (p : Read)
+    → len ≤ length o₀ → (d : Done f₁ expr-words expr-stage 1 ts₀ budget o₀ len o₁ q) → Row s (q .rest .now) o₁ (q .len) o bs end (q .stage) stage count
+    → p .rest .now ≡ bs → p .stage ≡ stage
+    → ((n : ℕ) → length ts₀ < n → (m : ℕ) × (length (tokens (q .rest .now)) < m) × (f n ts₀ ≡ s m (d .value) (tokens (q .rest .now))))
+    → ((h : Expr) (k : ℕ) → s (suc k) h (tokens bs) ≡ some (h, tokens bs))
+    → Appends o len (replicate count 7 ++ drop len (take end o)) o₂ (p .len)
+    → Done f expr-words expr-stage 1 ts₀ budget o₀ len o₂ p
+  row-end f₁ f ts₀ budget o₀ len o₁ q o o₂ bs end stage count p l₁ d c e₁ e₂ g last w =
+      record {
+        value = e-apps (d .value) (c .args);
+        reads = λ n h. let j = g n h in let k = c .links (d .value) (j .0) (j .1) in
+          j .2 ∙ k .2 ∙ at-suc (k .0) (k .1) ∙ ap (λ (z : List ℕ). some (e-apps (d .value) (c .args), tokens z)) (sym e₁);
+        wrote = whole;
+        stage = e₂ ∙ c .stages ∙ ap (λ (k : ℕ). max k (args-stage (c .args))) (d .stage) ∙ sym (apps-stage (d .value) (c .args));
+        fewer = omega (arith, d .fewer, c .fewer, ap (λ (z : List ℕ). length (tokens z)) e₁);
+        room = omega (arith, d .room, c .room, whole .ends, both .ends, ap length e₁, lens) }
+    where
+      both : Appends o₀ len (expr-words (d .value) ++ args-words (c .args)) o end
+      both = append-then o₀ o₁ o len (q .len) end _ _ (d .wrote) (c .wrote)
+      at-suc : (m : ℕ) → length (tokens bs) < m → s m (e-apps (d .value) (c .args)) (tokens bs) ≡ some (e-apps (d .value) (c .args), tokens bs)
       at-suc zero h = absurd (let z : ⊥ = omega arith in z)
-      at-suc (suc m) h = last (e-apps (c .first) (c .args)) m
-      is-apps : replicate count 7 ++ xs ≡ expr-words (e-apps (c .first) (c .args))
-      is-apps = ap (λ (k : ℕ). replicate k 7 ++ xs) (c .counts) ∙ apps-words (c .first) (c .args)
-      lens : length (expr-words (e-apps (c .first) (c .args))) ≡ count + length xs
-      lens = ap length (sym is-apps) ∙ length-append (replicate count 7) xs ∙ ap (λ (k : ℕ). k + length xs) (length-replicate count 7)
-      whole : Appends before len (expr-words (e-apps (c .first) (c .args))) o₁ (p .len)
-      whole = append-as _ _ _ _ _ _ is-apps (append-before before o o₁ len end (p .len) xs (replicate count 7) l₁ (c .wrote) w)
+      at-suc (suc m) h = last (e-apps (d .value) (c .args)) m
+      is-apps : replicate count 7 ++ (expr-words (d .value) ++ args-words (c .args)) ≡ expr-words (e-apps (d .value) (c .args))
+      is-apps = ap (λ (k : ℕ). replicate k 7 ++ (expr-words (d .value) ++ args-words (c .args))) (c .counts) ∙ apps-words (d .value) (c .args)
+      lens : length (expr-words (e-apps (d .value) (c .args))) ≡ count + length (expr-words (d .value) ++ args-words (c .args))
+      lens = ap length (sym is-apps) ∙ length-append (replicate count 7) _ ∙ ap (λ (k : ℕ). k + length (expr-words (d .value) ++ args-words (c .args))) (length-replicate count 7)
+      whole : Appends o₀ len (expr-words (e-apps (d .value) (c .args))) o₂ (p .len)
+      whole = append-as _ _ _ _ _ _ is-apps (append-before o₀ o o₂ len end (p .len) _ (replicate count 7) l₁ both w)
+
+-- Where the call of the first term goes one level down.
+pub lower-link : (g : Readers → List Name → Option (Expr × List Name)) (s : ℕ → Expr → List Name → Option (Expr × List Name)) (ts₀ ts : List Name) (a : Expr)
+  → ((n : ℕ) → length ts₀ ≤ n → g (readers n) ts₀ ≡ s n a ts) → 1 + length ts ≤ length ts₀ → (n : ℕ) → length ts₀ < n → (m : ℕ) × (length ts < m) × (lower g n ts₀ ≡ s m a ts)
+lower-link g s ts₀ ts a e l zero h = absurd (let z : ⊥ = omega arith in z)
+lower-link g s ts₀ ts a e l (suc n) h = (n, omega arith, e n (omega arith))

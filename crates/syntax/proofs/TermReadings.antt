@@ -1,5 +1,5 @@
 -- What the readers of terms and scripts do, step by step, in the order in which the parser tests.
-use mathlib.Core.Path.{_≡_, refl, sym, _∙_, ap}
+use mathlib.Core.Path.{_≡_, refl, sym, _∙_, ap, subst as tr}
 use mathlib.Core.Bool.{Bool, true, false, cond, not}
 use mathlib.Core.List.{List, [], _∷_, _++_}
 use mathlib.Core.Option.{Option, some, none}
@@ -13,8 +13,8 @@ use Rattle.std.specs.Results.{isErr}
 use Rattle.std.proofs.shelf.Tests.{false≢true}
 use Rattle.syntax.specs.Surface.{Name, same, Expr}
 use Rattle.syntax.specs.Tokens.{tokens}
-use Rattle.syntax.specs.Grammar.{t-lp, t-rp, t-at, t-hole, k-type, k-by}
-use Rattle.syntax.specs.Reader.{option, bind, then, eat, Readers, readers, read-term, read-script, read-atom, read-word}
+use Rattle.syntax.specs.Grammar.{t-lp, t-rp, t-semi, t-to, t-at, t-hole, k-type, k-by, k-fun}
+use Rattle.syntax.specs.Reader.{option, bind, then, eat, Readers, readers, read-term, read-script, read-atom, read-word, read-arrow, read-binder, read-exact, read-apply}
 use Rattle.syntax.specs.Parsing.{Done, FindsNone, Opened, Opens, Links, Frame, f-pi, f-lam, f-have, wrap, plug, lower, level, read-bound, read-uses, read-leaf, read-block, read-full, read-sort, expr-words}
 use Rattle.syntax.specs.Surface.{expr-stage}
 use Rattle.syntax.specs.declared.problem.Stop.{Stop}
@@ -66,6 +66,14 @@ links-as g₁ g₂ s bs before len after (Last q) e d =
 pub none-as : {A : Type 0} (g₁ g₂ : Readers → List Name → Option A) (ts : List Name) → ((r : Readers) → g₂ r ts ≡ g₁ r ts) → FindsNone (lower g₁) ts → FindsNone (lower g₂) ts
 none-as g₁ g₂ ts e d = lower-none g₂ ts (λ m h. e (readers m) ∙ d (suc m) (omega arith))
 
+-- What a link is.
+pub links-more : (g : Readers → List Name → Option (Expr × List Name)) (s : ℕ → List Name → Option (Expr × List Name)) (bs before : List ℕ) (len : ℕ) (after : List ℕ) (l : Link) (q : Read)
+  → l ≡ More q → Links g s bs before len after (Ok l) → Opened 0 g s (tokens bs) (4 * length bs) before len after q
+links-more g s bs before len after l q e d = tr (λ x. Links g s bs before len after (Ok x)) e d
+pub links-last : (g : Readers → List Name → Option (Expr × List Name)) (s : ℕ → List Name → Option (Expr × List Name)) (bs before : List ℕ) (len : ℕ) (after : List ℕ) (l : Link) (q : Read)
+  → l ≡ Last q → Links g s bs before len after (Ok l) → Done (lower g) expr-words expr-stage 1 (tokens bs) (4 * length bs) before len after q
+links-last g s bs before len after l q e d = tr (λ x. Links g s bs before len after (Ok x)) e d
+
 -- An error says that nothing is found.
 pub links-fail : (g : Readers → List Name → Option (Expr × List Name)) (s : ℕ → List Name → Option (Expr × List Name)) (bs before : List ℕ) (len : ℕ) (after : List ℕ) (r : Result Link Stop)
   → isErr r ≡ true → FindsNone (lower g) (tokens bs) → Links g s bs before len after r
@@ -100,6 +108,29 @@ uses-then r ts f = go (read-atom r ts)
     go : (o : Option (Expr × List Name)) → then o (λ a us. then (r .row a us) f) ≡ then (then o (r .row)) f
     go none = refl
     go (some p) = refl
+
+-- A row of atoms alone, and before an arrow.
+pub arrow-none : (r : Readers) (ts : List Name) → read-uses r ts ≡ none → read-arrow r ts ≡ none
+arrow-none r ts e = uses-then r ts _ ∙ then-not (read-uses r ts) _ e
+pub arrow-alone : (r : Readers) (ts us : List Name) (a : Expr) → read-uses r ts ≡ some (a, us) → eat t-to us ≡ none → read-arrow r ts ≡ some (a, us)
+arrow-alone r ts us a e d = uses-then r ts _ ∙ then-is (read-uses r ts) _ e (option-not (eat t-to us) _ _ d refl)
+pub arrow-to : (r : Readers) (ts us vs : List Name) (a : Expr) → read-uses r ts ≡ some (a, us) → eat t-to us ≡ some vs → read-arrow r ts ≡ wrap (f-pi [] a) (r .term vs)
+arrow-to r ts us vs a e d = uses-then r ts _ ∙ then-is (read-uses r ts) _ e (option-is (eat t-to us) _ _ d (wrap-then (f-pi [] a) (r .term vs)))
+
+-- What is applied, and then its arguments.
+pub apply-args : (r : Readers) (ts us : List Name) (a : Expr) → read-exact r ts ≡ some (a, us) → read-apply r ts ≡ r .args a us
+apply-args r ts us a e = parts (r .term ts) ∙ then-is (read-exact r ts) (r .args) e refl
+  where
+    inner : (b : Expr) (o : Option (List Name)) → bind o (λ vs. r .args b vs) ≡ then (bind o (λ vs. some (b, vs))) (r .args)
+    inner b none = refl
+    inner b (some vs) = refl
+    parts : (o : Option (Expr × List Name)) → then o (λ b vs. bind (eat t-semi vs) (λ ws. r .args b ws)) ≡ then (then o (λ b vs. bind (eat t-semi vs) (λ ws. some (b, ws)))) (r .args)
+    parts none = refl
+    parts (some p) = inner (p .0) (eat t-semi (p .1))
+
+-- A term that begins with neither fun nor a binder.
+pub term-arrow : (r : Readers) (ts : List Name) → eat k-fun ts ≡ none → read-binder ts ≡ none → read-term r ts ≡ read-arrow r ts
+term-arrow r ts e d = rw (e, d) refl
 
 -- Where one token comes first, no other does.
 pub eat-other : (k j : Name) (ts us : List Name) → eat k ts ≡ some us → same k j ≡ false → eat j ts ≡ none

@@ -4,4 +4,5 @@ pub mod lexer;
 pub mod problem;
 mod reading;
 pub mod scan;
+mod terms;
 mod write;
