@@ -16,3 +16,8 @@ pub mod Following
 pub mod TermReadings
 pub mod Chains
 pub mod Rows
+pub mod Items
+pub mod DeclReadings
+pub mod Notes
+pub mod AllReadings
+pub mod WholeText

@@ -16,7 +16,7 @@ use Rattle.syntax.specs.Tokens.{tokens}
 use Rattle.syntax.specs.Grammar.{t-lp, t-rp, t-semi, t-to, t-at, t-hole, k-type, k-by, k-fun}
 use Rattle.syntax.specs.Reader.{option, bind, then, eat, Readers, readers, read-term, read-script, read-atom, read-word, read-arrow, read-binder, read-exact, read-apply}
 use Rattle.syntax.specs.Parsing.{Done, FindsNone, Opened, Opens, Links, Frame, f-pi, f-lam, f-have, wrap, plug, lower, level, read-bound, read-uses, read-leaf, read-block, read-full, read-sort, expr-words}
-use Rattle.syntax.specs.Surface.{expr-stage}
+use Rattle.syntax.specs.Surface.{expr-stage, Param}
 use Rattle.syntax.specs.declared.problem.Stop.{Stop}
 use Rattle.syntax.specs.declared.reading.Read.{Read}
 use Rattle.syntax.specs.declared.reading.Link.{Link}
@@ -150,3 +150,15 @@ atom-leaf r ts e d = rw (e, d) refl
 pub atom-block : (r : Readers) (ts us : List Name) → eat t-lp ts ≡ none → eat k-by ts ≡ some us → read-atom r ts ≡ read-block r us
 atom-block r ts us e d =
     rw (e, eat-other k-by t-at ts us d refl, eat-other k-by k-type ts us d refl, eat-other k-by t-hole ts us d refl, d) refl
+
+-- A parameter's type and its closing bracket.
+pub bound-param : (r : Readers) (ts us : List Name) (x : Name) (a : Expr) → read-bound r ts ≡ some (a, us)
+  → then {C = Param × List Name} (r .term ts) (λ b vs. bind (eat t-rp vs) (λ ws. some (record { name = x; type = b }, ws))) ≡ some (record { name = x; type = a }, us)
+bound-param r ts us x a e = parts (r .term ts) ∙ then-is {C = Param × List Name} (read-bound r ts) (λ b vs. some (record { name = x; type = b }, vs)) e refl
+  where
+    inner : (b : Expr) (o : Option (List Name)) → bind {C = Param × List Name} o (λ ws. some (record { name = x; type = b }, ws)) ≡ then (bind o (λ ws. some (b, ws))) (λ b vs. some (record { name = x; type = b }, vs))
+    inner b none = refl
+    inner b (some ws) = refl
+    parts : (o : Option (Expr × List Name)) → then {C = Param × List Name} o (λ b vs. bind (eat t-rp vs) (λ ws. some (record { name = x; type = b }, ws))) ≡ then (then o (λ b vs. bind (eat t-rp vs) (λ ws. some (b, ws)))) (λ b vs. some (record { name = x; type = b }, vs))
+    parts none = refl
+    parts (some p) = inner (p .0) (eat t-rp (p .1))

@@ -7,3 +7,4 @@ pub mod Reader
 pub mod Lexing
 pub mod Writing
 pub mod Parsing
+pub mod Declaring

@@ -40,7 +40,7 @@ pub fn same_bytes(left: &[u8], right: &[u8]) -> bool
 }
 
 // Is it the token with these bytes?
-fn is_token(token: Token<'_>, wanted: &[u8]) -> bool
+pub fn is_token(token: Token<'_>, wanted: &[u8]) -> bool
     ensures { λ r. ⌜ r ≡ same (lexeme (token .entry)) (now (wanted .entry)) ⌝ }
 {
     match token {

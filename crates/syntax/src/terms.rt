@@ -63,7 +63,7 @@ fn term_link<'a>(bytes: &'a [u8], out: &mut [u32], len: usize) -> Result<Link<'a
 }
 
 // Behind ( x : a type and the closing bracket, written with a tag and the name.
-fn bound<'a>(tag: u32, word: Word<'a>, out: &mut [u32], len: usize) -> Result<Read<'a>, Stop>
+pub fn bound<'a>(tag: u32, word: Word<'a>, out: &mut [u32], len: usize) -> Result<Read<'a>, Stop>
     requires some { ⌜ 1 ≤ length (now (word .name)) ⌝ }
     requires short { ⌜ length (now (word .name)) ≤ 32 ⌝ }
     requires room { ⌜ len + 4 * (length (now (word .name)) + length (now (word .rest))) ≤ length (now out) ⌝ }
