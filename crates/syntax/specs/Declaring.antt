@@ -14,7 +14,7 @@ use Rattle.std.specs.declared.result.Result.{Result}
 use Rattle.std.specs.declared.result.Result.the-variants.{Ok, Err}
 use Rattle.syntax.specs.Surface.{Name, Expr, Param, ConDecl, Decl, expr-stage, hide-stage, params-stage, cons-stage, decl-stage, stage, con-names, decl-names, names-of, once, listed}
 use Rattle.syntax.specs.Tokens.{tokens}
-use Rattle.syntax.specs.Grammar.{t-colon, t-rp, t-semi, k-again, Reads}
+use Rattle.syntax.specs.Grammar.{t-colon, t-rp, t-semi, k-again, shallow, Reads}
 use Rattle.syntax.specs.Tree.{put-name, put-expr, put-params, put-cons, put-decl, put-decls, decls-words}
 use Rattle.syntax.specs.Reader.{bind, then, eat, readers, read-name, read-number, read-hide, read-params, read-cons, read-decls}
 use Rattle.syntax.specs.Lexing.{Behind}
@@ -141,6 +141,11 @@ pub record ParsedPost (t : List ℕ) (after : List ℕ) (p : Parsed) : Type 0 wh
 abbrev pub Parses : List ℕ → List ℕ → Result Parsed Stop → Type 0
 Parses t after (Ok p) = ParsedPost t after p
 Parses t after (Err s) = (ds : List Decl) → Reads t ds → ⊥
+
+-- Whether at most 64 brackets are open at once.
+abbrev pub Shallow : List ℕ → Option ℕ → Type 0
+Shallow t None = shallow 0 (tokens t) ≡ true
+Shallow t (Some left) = shallow 0 (tokens t) ≡ false
 
 -- Whether a name is among those noted.
 abbrev pub Later : Name → List Note → Option ℕ → Type 0

@@ -3,21 +3,19 @@ ghost use mathlib.Core.Path.{_≡_};
 ghost use mathlib.Core.List.{List, _∷_};
 ghost use lib.ListN.{drop};
 ghost use Rattle.syntax.specs.Surface.{same};
-ghost use Rattle.syntax.specs.Tokens.{tokens};
-ghost use Rattle.syntax.specs.Grammar.{shallow};
-ghost use Rattle.syntax.specs.Declaring.{Note, note-words, Later, Distinct};
+ghost use Rattle.syntax.specs.Declaring.{Note, note-words, Later, Distinct, Shallow};
 use crate::lexer::next_token;
 use crate::scan::is_token;
 
-// Are at most 64 brackets open at once?
-pub fn is_shallow(text: &[u8]) -> bool
-    ensures { λ r. ⌜ r ≡ shallow 0 (tokens (now (text .entry))) ⌝ }
+// How many bytes are left where more than 64 brackets are open, if so many ever are.
+pub fn first_too_deep(text: &[u8]) -> Option<usize>
+    ensures { λ r. ⌜ Shallow (now (text .entry)) r ⌝ }
 {
     let mut rest = text;
     let mut open: usize = 0;
     while let Some(cut) = next_token(rest) {
         if open > 64 {
-            return false;
+            return Some(rest.len());
         }
         if is_token(cut.token, b"(") || is_token(cut.token, b"{") {
             open += 1;
@@ -26,7 +24,7 @@ pub fn is_shallow(text: &[u8]) -> bool
         }
         rest = cut.rest;
     }
-    true
+    None
 }
 
 // Are the words the same?

@@ -11,7 +11,7 @@ use crate::declarations::assumption;
 use crate::declarations::definition;
 use crate::lexer::next_token;
 use crate::limits::first_repeated;
-use crate::limits::is_shallow;
+use crate::limits::first_too_deep;
 use crate::problem::Problem;
 use crate::problem::Stop;
 use crate::scan::eat;
@@ -83,8 +83,8 @@ pub fn parse(text: &[u8], out: &mut [u32], names: &mut [u32]) -> Result<Parsed, 
     if text.len() > 32768 {
         return Err(Stop { left: text.len() - 32768, problem: Problem::TooLong });
     }
-    if !is_shallow(text) {
-        return Err(Stop { left: 0, problem: Problem::TooDeep });
+    if let Some(left) = first_too_deep(text) {
+        return Err(Stop { left, problem: Problem::TooDeep });
     }
     let whole = declarations(text, out, names)?;
     if let Some(left) = first_repeated(&names[..whole.used]) {
