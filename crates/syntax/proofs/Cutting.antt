@@ -165,3 +165,12 @@ letters-append [] ys p q = q
 letters-append (x ∷ xs) ys p q = and-from (letter x) _ (and-parts (letter x) _ p .0) (letters-append xs ys (and-parts (letter x) _ p .1) q)
 pub letters-on : (bs : List ℕ) (n : ℕ) → n < length bs → letters (take n bs) ≡ true → letter (getD bs n 0) ≡ true → letters (take (n + 1) bs) ≡ true
 letters-on bs n h p q = ap letters (take-more bs n 0 h) ∙ letters-append (take n bs) _ p (and-from (letter (getD bs n 0)) _ q refl)
+
+-- The bytes from the first one or two on.
+pub one-first : (bs : List ℕ) → 0 < length bs → bs ≡ getD bs 0 0 ∷ drop 1 bs
+one-first [] h = absurd (let z : ⊥ = omega arith in z)
+one-first (c ∷ cs) h = refl
+pub two-first : (bs : List ℕ) → 1 < length bs → bs ≡ getD bs 0 0 ∷ getD bs 1 0 ∷ drop 2 bs
+two-first [] h = absurd (let z : ⊥ = omega arith in z)
+two-first (c ∷ []) h = absurd (let z : ⊥ = omega arith in z)
+two-first (c ∷ d ∷ cs) h = refl

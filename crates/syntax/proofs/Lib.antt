@@ -10,6 +10,8 @@ pub mod OneReading
 pub mod Examples
 pub mod Cutting
 pub mod Scanning
+pub mod Locating
+pub mod Headed
 pub mod Appending
 pub mod TreeWords
 pub mod Following

@@ -1,7 +1,7 @@
 -- What the lexer promises.
 use mathlib.Core.Path.{_≡_}
 use mathlib.Core.Bool.{Bool, true, false, _&&_, _||_, not}
-use mathlib.Core.List.{List, [], _∷_}
+use mathlib.Core.List.{List, [], _∷_, _++_}
 use mathlib.Core.Option.{some, none}
 use Prim.Native.Nat.{ℕ, _+_, _≤_, _<_}
 use denote.Ref.{RefT}
@@ -49,9 +49,12 @@ abbrev pub Joins : ℕ → ℕ → Option Token → Type 0
 Joins c d None = joins c d ≡ false
 Joins c d (Some t) = (joins c d ≡ true) × (lexeme t ≡ c ∷ d ∷ []) × Formed t
 
--- A cut takes the first token of the bytes, and no byte twice.
+-- A cut takes the first token of the bytes, and no byte twice: in front of the token stand only bytes that bring none.
 pub record CutsOne (bs : List ℕ) (c : Cut) : Type 0 where
   pub first : tokens bs ≡ lexeme (c .token) ∷ tokens (c .rest .now)
+  pub front : List ℕ
+  pub place : bs ≡ front ++ (lexeme (c .token) ++ c .rest .now)
+  pub begins : tokens (lexeme (c .token) ++ c .rest .now) ≡ tokens bs
   pub shorter : length (lexeme (c .token)) + length (c .rest .now) ≤ length bs
   pub some-bytes : 1 ≤ length (lexeme (c .token))
   pub formed : Formed (c .token)

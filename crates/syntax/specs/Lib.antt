@@ -8,3 +8,6 @@ pub mod Lexing
 pub mod Writing
 pub mod Parsing
 pub mod Declaring
+pub mod Phrases
+pub mod Lines
+pub mod Headers

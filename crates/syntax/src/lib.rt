@@ -4,6 +4,7 @@ mod data;
 mod declarations;
 pub mod lexer;
 mod limits;
+pub mod locate;
 pub mod parse;
 pub mod problem;
 mod reading;
