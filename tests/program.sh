@@ -100,10 +100,10 @@ pad large.txt 32768
 holds large.txt 0 1
 cp large.txt larger.txt
 pad larger.txt 32769
-no_text larger.txt 1 'the text has more than 32768 bytes'
+no_text larger.txt 2 'the text has more than 32768 bytes'
 cp large.txt huge.txt
 pad huge.txt 100000
-no_text huge.txt 1 'the text has more than 32768 bytes'
+no_text huge.txt 2 'the text has more than 32768 bytes'
 { printf 'axiom a : '; repeat 3270 'Type 0 -> '; printf 'Type 0;'; } > chain.txt
 holds chain.txt 0 1
 
@@ -203,6 +203,27 @@ expect $all "$(answer id.txt 0 'id.txt: all 1')" '' --steps 18446744073709551615
 expect 1 'empty.txt: few: 65535 words are too few for this text, at least 65536 are needed' '' --words 65535 empty.txt
 expect $all "$(answer empty.txt 0 'empty.txt: all 0')" '' --words 65536 empty.txt
 expect 1 'larger.txt: few: 589839 words are too few for this text, at least 589840 are needed' '' --words 589839 larger.txt
+
+# The largest texts that are one chain each way, under the stack that programs have elsewhere. They read, and no declaration of
+# theirs holds, since their names are nowhere.
+ulimit -s 8192
+chain() {
+    size=$(wc -c < "$1")
+    if [ "$size" -gt 32768 ] || [ "$size" -lt 32000 ]; then echo "$1 has $size bytes"; failed=$((failed + 1)); fi
+    refused "$1" "$2" 1 0 "$3"
+}
+{ printf 'axiom a : '; repeat 6550 'A -> '; printf 'A;'; } > arrows.txt
+chain arrows.txt 0 'axiom a'
+{ printf 'axiom a : f'; repeat 16370 ' a'; printf ';'; } > uses.txt
+chain uses.txt 0 'axiom a'
+{ printf 'def a : A := '; repeat 3275 'fun(x:A)=>'; printf 'x;'; } > functions.txt
+chain functions.txt 0 'def a'
+awk 'BEGIN { for (i = 0; i < 2410; i++) printf "axiom a%d:A;", i }' > declarations.txt
+chain declarations.txt 0 'axiom a0'
+{ printf 'def a : A := by { '; repeat 4000 'intro x;'; printf 'exact x; };'; } > intros.txt
+chain intros.txt 5 'def a'
+{ printf 'def a : A := by { '; repeat 1800 'have x:A{exact x;}'; printf 'exact x; };'; } > haves.txt
+chain haves.txt 5 'def a'
 
 # Several files, and a list of them.
 if [ 0 -lt "$landed" ]; then counts='1 all, 1 refused' later=0; else counts='0 all, 0 refused' later=2; fi
