@@ -1,8 +1,14 @@
 -- What the code's proofs cite.
 pub mod Putting
 pub mod Standing
+pub mod Staying
+pub mod Within
+pub mod Replacing
+pub mod Aiming
+pub mod Running
 pub mod Making
 pub mod Spelling
+pub mod Cases
 pub mod Finding
 pub mod Spreading
 pub mod Passing

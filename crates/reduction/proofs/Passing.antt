@@ -36,8 +36,14 @@ abbrev pub Candidate : Env → List ℕ → List ℕ → Maybe ℕ → Option (L
 Candidate e ws r None o = o ≡ none
 Candidate e ws r (Some c) o = (xs : List ℕ) × (o ≡ some xs) × RedexAt e ws r c xs
 
--- What stands behind all is no longer than what is to come.
-pub words-long : (is : List Item) (r : List ℕ) → length r ≤ length (words is r)
+-- What is to come, before what stands behind all, are whole nodes.
+abbrev pub nodes-to-come : List Item → ℕ
+nodes-to-come [] = 0
+nodes-to-come (plain t ∷ is) = size t + nodes-to-come is
+nodes-to-come (last q f a ∷ is) = size a + nodes-to-come is
+nodes-to-come (orelse o ∷ is) = nodes-to-come is
+
+pub words-long : (is : List Item) (r : List ℕ) → length (words is r) ≡ 3 * nodes-to-come is + length r
 words-long [] r = omega arith
 words-long (plain t ∷ is) r = omega (arith, words-long is r, length-put t (words is r))
 words-long (last q f a ∷ is) r = omega (arith, words-long is r, length-put a (words is r))
@@ -212,6 +218,7 @@ hit-at e ws pre₀ r t place n frames x k u l c p =
       here = below ws (x .pre) [] r k (x .term) (x .items) l (x .reads);
       steps = p;
       gives = refl;
+      nodes = nodes-to-come (others k (x .term) (x .items));
       inner = words-long (others k (x .term) (x .items)) r;
     }
 

@@ -21,7 +21,7 @@ use Rattle.reduction.specs.Stepping.{RedexAt, FindsStep, frame}
 use Rattle.reduction.proofs.Putting.{behind, length-put}
 use Rattle.reduction.proofs.Finding.{Item, plain, last, orelse, words, within, ans, node, expand-pi, expand-lam, expand-need}
 use Rattle.reduction.proofs.Spreading.{twos, length-twos, others, unwind, unwind-words, hit-below}
-use Rattle.reduction.proofs.Passing.{Waiting, Candidate, words-long, Pass}
+use Rattle.reduction.proofs.Passing.{Waiting, Candidate, nodes-to-come, words-long, Pass}
 
 -- A frame comes next: a last argument, or an earlier find.
 pub record LastNext (e : Env) (ws pre₀ r : List ℕ) (t : Term) (place : ℕ) (hit : Maybe ℕ) (frames : List ℕ) : Type 0 where
@@ -118,7 +118,7 @@ fires e ws pre₀ r t place hit frames x u p =
       reads = x .reads;
       placed = x .placed;
       waits = (x .n, refl, x .waits);
-      candidate = (xs, refl, record { before = x .front; rest = words (x .items) r; redex = app (x .fun) (x .arg); result = u; placed = x .fronted; here = x .whole; steps = p; gives = refl; inner = words-long (x .items) r });
+      candidate = (xs, refl, record { before = x .front; rest = words (x .items) r; redex = app (x .fun) (x .arg); result = u; placed = x .fronted; here = x .whole; steps = p; gives = refl; nodes = nodes-to-come (x .items); inner = words-long (x .items) r });
       heart = x .heart ∙ ap (λ o. ans e r (x .pre ++ put (x .arg) []) (or-else (within (x .front) (words (x .items) r) o) (or-else (within (x .pre) (words (x .items) r) (normal-step e (x .arg))) (x .found))) (x .items)) p;
     }
   where

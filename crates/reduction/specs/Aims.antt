@@ -50,3 +50,15 @@ Reduces e aim count most heap at scratch stack t after UsedUp =
 Reduces e aim count most heap at scratch stack t after NoRoom =
     (u : Term) × (m : ℕ) × (count + m ≤ most) × (normal-steps e m t ≡ some u) × ((length heap < at + 3 * size u) ⊎ ((scratch < 3 * size u) ⊎ (stack < 3 * size u)))
 Reduces e aim count most heap at scratch stack t after NotYet = (i : ℕ) × (k : DataType) × (data-at e i ≡ some k)
+
+-- The test for the aim's form; for the normal form nothing is tested, since the step says whether there is one.
+abbrev pub Met : Env → Aim → Term → Bool → Type 0
+Met e aim t true = meets e aim t ≡ true
+Met e aim t false = (aim ≡ ToNormal) ⊎ (meets e aim t ≡ false)
+
+-- The answer for a normal term.
+abbrev pub resting : Aim → ℕ → ℕ → Reduced
+resting ToNormal n end = Reached n end
+resting ToPi n end = Resting n end
+resting ToSort n end = Resting n end
+resting ToDomain n end = Resting n end

@@ -10,7 +10,7 @@ use Rattle.std.specs.declared.option.Option.{Option as Maybe}
 use Rattle.std.specs.declared.option.Option.the-variants.{Some, None}
 use Rattle.theory.specs.Terms.{Head, h-along, Term, var, const, sort, pi, lam, app, size}
 use Rattle.theory.specs.Environment.{DataType, Entry, Env, data-at}
-use Rattle.theory.specs.Reduction.{contract, delta, normal-step}
+use Rattle.theory.specs.Reduction.{contract, delta, normal-step, normal-steps}
 use Rattle.theory.proofs.Closed.{Scoped, ClosedEntry}
 use Rattle.terms.specs.Words.{put, puts, number, At, Small}
 use Rattle.terms.specs.Writing.{Appends}
@@ -34,6 +34,10 @@ pub record Stands (ws : List ℕ) (at : ℕ) (t : Term) (end : ℕ) : Type 0 whe
 pub record ClosedEnv (e : Env) : Type 0 where
   pub closed : (i : ℕ) (d : Entry) → getElem? e i ≡ some d → ClosedEntry d
 
+-- The term and all that it reduces to in normal order have at most n free variables.
+pub record StaysScoped (e : Env) (n : ℕ) (t : Term) : Type 0 where
+  pub scoped : (m : ℕ) (u : Term) → normal-steps e m t ≡ some u → Scoped n u
+
 -- The table and the store hold an environment, and from at to end stands a term whose free variables are not too many to be counted.
 pub record Ready (index store heap : List ℕ) (at end : ℕ) : Type 0 where
   pub env : Env
@@ -42,7 +46,7 @@ pub record Ready (index store heap : List ℕ) (at end : ℕ) : Type 0 where
   pub env-at : EnvAt index store env
   pub closed : ClosedEnv env
   pub stands : Stands heap at term end
-  pub scoped : Scoped scope term
+  pub scoped : StaysScoped env scope term
   pub few : scope ≤ 2 ^ 61
 
 -- The step: there is none; the term stands stepped; the heap or the scratch words are too few for the stepped term; the stack is too short for
@@ -70,7 +74,8 @@ pub record RedexAt (e : Env) (ws end : List ℕ) (c : ℕ) (after : List ℕ) : 
   pub here : ws ≡ before ++ put redex rest
   pub steps : top-step e redex ≡ some result
   pub gives : after ≡ before ++ put result rest
-  pub inner : length end ≤ length rest
+  pub nodes : ℕ
+  pub inner : length rest ≡ 3 * nodes + length end
 
 -- The place of the redex that the normal-order step of t contracts; before stand the words pre, behind it rest.
 abbrev pub FindsStep : Env → List ℕ → List ℕ → Term → List ℕ → Maybe ℕ → Type 0
@@ -164,3 +169,17 @@ pub record AppRedex (ws : List ℕ) (at : ℕ) : Type 0 where
   pub here : At ws at (app fun arg) rest
   pub steps : contract env fun arg ≡ some result
   pub small : Small (2 ^ 63) arg
+
+-- A term stands at a place of the heap and ends before end; the first made words of the scratch words are to stand in its place.
+pub record Replaceable (heap : List ℕ) (at end : ℕ) (scratch : List ℕ) (made : ℕ) : Type 0 where
+  pub term : Term
+  pub rest : List ℕ
+  pub here : At heap at term rest
+  pub before : at + 3 * size term ≤ end
+  pub within : end ≤ length heap
+  pub room : made ≤ length scratch
+
+-- The words are written from at on, or one of the two is too short for them.
+abbrev pub Replaces : List ℕ → ℕ → ℕ → List ℕ → List ℕ → Maybe ℕ → Type 0
+Replaces heap at scratch words after (Some end) = Appends heap at words after end
+Replaces heap at scratch words after None = (length heap < at + length words) ⊎ (scratch < length words)

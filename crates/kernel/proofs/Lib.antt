@@ -1,0 +1,24 @@
+-- Lemmas about inference as a walk, and about the room that it takes.
+pub mod Walk
+pub mod Computing
+pub mod Room
+pub mod Places
+pub mod Stacking
+pub mod Contexts
+pub mod Written
+pub mod Views
+pub mod Moves
+pub mod Tops
+pub mod Reduced
+pub mod FrameViews
+pub mod Backs
+pub mod Domains
+pub mod Codomains
+pub mod Inserting
+pub mod Functions
+pub mod Agreeing
+pub mod Arguments
+pub mod Applying
+pub mod Falling
+pub mod Beginning
+pub mod Checks
