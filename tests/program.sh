@@ -104,6 +104,8 @@ no_text larger.txt 2 'the text has more than 32768 bytes'
 cp large.txt huge.txt
 pad huge.txt 100000
 no_text huge.txt 2 'the text has more than 32768 bytes'
+repeat 32769 '\n' > lines.txt
+no_text lines.txt 32769 'the text has more than 32768 bytes'
 { printf 'axiom a : '; repeat 3270 'Type 0 -> '; printf 'Type 0;'; } > chain.txt
 holds chain.txt 0 1
 
@@ -165,6 +167,8 @@ done
 text 'a name is declared twice' 1 'data nat : Type 0 { nat again 0; }'
 text 'a name is declared twice' 1 '%s axiom zero : Type 0;' "$nat"
 text 'a name is declared twice' 1 '%s %s' "$id" "$id"
+text 'a name is declared twice' 3 'axiom a : Type 0;\n\naxiom a\n: Type 0;\n'
+text 'more than 64 brackets are open' 2 'axiom a :\n%s\n%s\nType 0' "$(repeat 65 '(')" "$(repeat 65 '(')"
 
 # What is missing, with its line.
 text 'a term was expected' 4 '# one\n\naxiom t :\n: Type 0;\n'

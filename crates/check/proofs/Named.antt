@@ -9,9 +9,6 @@ use native.Mathlib.Omega.{arith}
 use lib.Dec.{eqb}
 use lib.ListN.{length, length-append}
 use Rattle.std.proofs.shelf.Tests.{both-ways, cond-false, ne-eqb}
-use Rattle.theory.specs.Environment.{Env}
-use Rattle.elaboration.specs.Elaboration.{Global}
-use Rattle.judge.specs.Promise.{Standing}
 use Rattle.syntax.proofs.Headed.{headers-right}
 use Rattle.syntax.specs.Surface.{Name, Decl}
 use Rattle.syntax.specs.Tokens.{tokens}
@@ -44,6 +41,6 @@ same-name w y ts (some x) p = ap some (sym (p .0))
 pub header-names : (bs : List ℕ) (n : ℕ) (h : Header) → HeaderAt bs n h → (ds : List Decl) → Reads bs ds → name-at ds n ≡ some (h .name .now)
 header-names bs n h f ds r = same-name (h .keyword .now) (h .name .now) (f .behind) (name-at ds n) (tr (λ o. Declared o (name-at ds n)) (f .nth) (headers-right bs ds r n))
 
--- Behind n declarations that check there is one more.
-pub standing-has : {t : List ℕ} {n : ℕ} {d : Decl} {gs : List Global} {e : Env} → Standing t n d gs e → HasDecl t n
-standing-has {d} s = (s .done ++ (d ∷ s .rest), s .reads, omega (arith, s .count, length-append (s .done) (d ∷ s .rest)))
+-- Behind n declarations there is one more.
+pub has-next : (t : List ℕ) (n : ℕ) (ds es : List Decl) (d : Decl) → Reads t (ds ++ (d ∷ es)) → n ≡ length ds → HasDecl t n
+has-next t n ds es d r e = (ds ++ (d ∷ es), r, omega (arith, e, length-append ds (d ∷ es)))

@@ -1,11 +1,13 @@
 // What is said of a text.
 ghost use mathlib.Core.Path.{_≡_};
-ghost use Prim.Native.Nat.{ℕ, _+_, _*_, _≤_};
+ghost use mathlib.Core.Logic.{_⊎_};
+ghost use Prim.Native.Nat.{ℕ, _+_, _-_, _*_, _≤_};
 ghost use lib.Chars.{codes};
 ghost use lib.ListN.{length};
 ghost use Rattle.std.specs.Text.{Utf8};
 ghost use Rattle.judge.specs.Promise.{CheckedPost};
 ghost use Rattle.judge.specs.declared.Checked.{Checked};
+ghost use Rattle.syntax.specs.Headers.{TokenAt};
 ghost use Rattle.syntax.specs.Lines.{line-of};
 ghost use Rattle.check.specs.Answers.{HasDecl, Unreadable, StopsAt, Says, reason-text};
 use judge::Checked;
@@ -102,7 +104,8 @@ fn stopped(text: &[u8], reason: Reason, after: usize) -> Said<'_>
 
 // Where a problem stands: behind what is too much, or else at the token that was not expected.
 fn stop_at(text: &[u8], stop: Stop) -> usize
-    ensures { λ r. ⌜ r ≤ length (now (text .entry)) ⌝ }
+    ensures within { λ r. ⌜ r ≤ length (now (text .entry)) ⌝ }
+    ensures place { λ r. ⌜ (r ≡ length (now (text .entry)) - stop .left) ⊎ TokenAt (now (text .entry)) (length (now (text .entry)) - stop .left) r ⌝ }
 {
     let left = stop.left.min(text.len());
     match stop.problem {

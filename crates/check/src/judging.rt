@@ -2,6 +2,8 @@
 ghost use mathlib.Core.Path.{_≡_};
 ghost use Rattle.std.specs.Of.Vec.{vec-len};
 ghost use Rattle.std.specs.Vec.{made};
+ghost use Rattle.std.specs.Text.{Utf8};
+ghost use Rattle.check.specs.Arguments.{role-of};
 ghost use Rattle.check.specs.Tallies.{add-up, counted};
 ghost use Rattle.check.specs.declared.tally.Outcome.{Outcome};
 ghost use Rattle.check.specs.declared.tally.Outcome.the-variants.{Unread};
@@ -82,9 +84,11 @@ impl Judging {
     }
 
     // Looks at an argument behind one with the role `before`, judges the text that it names, and says its role.
-    fn argument(&mut self, rt: &LibcRuntime, before: Role, word: &str) -> io::Result<Role> {
-        let now = Role::of(before, word);
-        match now {
+    fn argument(&mut self, rt: &LibcRuntime, before: Role, word: &str) -> io::Result<Role>
+        ensures { λ r. ⌜ made r (λ o. o ≡ role-of before (now (word .entry))) ⌝ }
+    {
+        let role = Role::of(before, word);
+        match role {
             Role::StepsNumber => {
                 if number(word, u64::MAX).is_none() {
                     self.fault(rt, word, "not a number of steps")?;
@@ -99,7 +103,23 @@ impl Judging {
             Role::File => self.named(rt, word)?,
             _ => {}
         }
-        Ok(now)
+        Ok(role)
+    }
+
+    // The same for bytes that need not be text.
+    fn argument_bytes(&mut self, rt: &LibcRuntime, before: Role, bytes: &[u8]) -> io::Result<Role>
+        ensures { λ r. ⌜ made r (λ o. (Utf8 (now (bytes .entry)) → o ≡ role-of before (now (bytes .entry)))) ⌝ }
+    {
+        match from_utf8(bytes) {
+            Ok(word) => {
+                let role = self.argument(rt, before, word)?;
+                Ok(role)
+            }
+            Err(_) => {
+                self.unread(rt, bytes, "the name is not UTF-8")?;
+                Ok(Role::File)
+            }
+        }
     }
 
     // Judges the texts that the arguments name.
@@ -121,17 +141,6 @@ impl Judging {
             Role::Steps => self.fault(rt, "--steps", "a number is missing"),
             Role::Words => self.fault(rt, "--words", "a number is missing"),
             _ => Ok(()),
-        }
-    }
-
-    // The same for bytes that need not be text.
-    fn argument_bytes(&mut self, rt: &LibcRuntime, before: Role, bytes: &[u8]) -> io::Result<Role> {
-        match from_utf8(bytes) {
-            Ok(word) => self.argument(rt, before, word),
-            Err(_) => {
-                self.unread(rt, bytes, "the name is not UTF-8")?;
-                Ok(Role::File)
-            }
         }
     }
 

@@ -6,6 +6,7 @@ ghost use Prim.Native.Nat.{_≤_, _<_};
 ghost use lib.ListN.{take};
 use crate::options::NAME_BYTES;
 
+// The bytes so far, and whether there were more than fit.
 #[derive(Drop)]
 pub struct Name {
     buf: [u8; NAME_BYTES],
