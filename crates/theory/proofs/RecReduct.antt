@@ -7,16 +7,13 @@ use Prim.Native.Nat.{ℕ, zero, suc, _+_, _<_}
 use lib.ListN.{length, take, drop, getElem?, length-append}
 use lib.Seq.{take-append-seam, drop-append-seam}
 use native.Mathlib.Omega.{arith}
+use Rattle.theory.proofs.SubstAll.{get-append}
 use Rattle.theory.specs.Terms.{h-rec, Term, const, apps}
 use Rattle.theory.specs.Environment.{Constructor, DataType}
 use Rattle.theory.specs.Reduction.{app-each, last-arg}
 use Rattle.theory.proofs.Iota.{rec-reduct, last-append}
 
 -- the parts of a list that is put together
-get-behind : {A : Type 0} (xs ys : List A) (n m : ℕ) → m ≡ length xs + n → getElem? (xs ++ ys) m ≡ getElem? ys n
-get-behind [] ys n m p = ap (getElem? ys) (let z : m ≡ n = omega arith in z)
-get-behind (x ∷ xs) ys n zero p = absurd (omega arith)
-get-behind (x ∷ xs) ys n (suc m) p = get-behind xs ys n m (omega arith)
 get-front : {A : Type 0} (xs ys : List A) (n : ℕ) → n < length xs → getElem? (xs ++ ys) n ≡ getElem? xs n
 get-front [] ys n p = absurd (omega arith)
 get-front (x ∷ xs) ys zero p = refl
@@ -35,7 +32,7 @@ module _ (ps : List Term) (m : Term) (cs : List Term) (s : Term) where
   pub take-cases : (n : ℕ) → n ≡ length ps + suc (length cs) → take n all-args ≡ ps ++ (m ∷ cs)
   take-cases n p = ap (take n) all-but-last ∙ take-front (ps ++ (m ∷ cs)) (s ∷ []) n (omega (arith, length-append ps (m ∷ cs)))
   pub get-case : (n l : ℕ) → l ≡ length ps + suc n → n < length cs → getElem? all-args l ≡ getElem? cs n
-  get-case n l p q = get-behind ps (m ∷ (cs ++ (s ∷ []))) (suc n) l p ∙ get-front cs (s ∷ []) n q
+  get-case n l p q = get-append ps (m ∷ (cs ++ (s ∷ []))) l (suc n) (omega (arith, p)) ∙ get-front cs (s ∷ []) n q
   pub last-is : last-arg all-args ≡ some s
   last-is = ap last-arg all-but-last ∙ last-append (ps ++ (m ∷ cs)) s
   -- what the recursor reduces to, with the constructor's arguments split too
