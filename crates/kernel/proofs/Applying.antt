@@ -14,7 +14,7 @@ use Rattle.theory.proofs.NormalSteps.{domain-reaches}
 use Rattle.terms.specs.Words.{put, At}
 use Rattle.terms.specs.Writing.{Appends}
 use Rattle.terms.proofs.Appending.{append-keeps}
-use Rattle.kernel.specs.Question.{TakesLonger, entry-size}
+use Rattle.theory.specs.Question.{TakesLonger, entry-size}
 use Rattle.kernel.specs.Inference.{Has, Untyped, NeedsMore, held}
 use Rattle.kernel.specs.Machine.{place, Task, Way, Sensible, Kept}
 use Rattle.kernel.specs.Resting.{OneForm, TwoForms, FullPair}

@@ -13,7 +13,7 @@ use Rattle.terms.specs.Words.{At}
 use Rattle.terms.specs.Writing.{Pushes}
 use Rattle.reduction.specs.Stepping.{ClosedEnv, StaysScoped, Ready}
 use Rattle.reduction.proofs.Staying.{typed-stays}
-use Rattle.kernel.specs.Question.{TakesLonger, entry-size}
+use Rattle.theory.specs.Question.{TakesLonger, entry-size}
 use Rattle.kernel.specs.Inference.{Has, Zipper, NeedsMore, z-end, z-pi, z-under-pi, z-lam, z-under-lam, z-fun, z-arg, held}
 use Rattle.kernel.specs.Machine.{frame-words, kept-words, Task, Way, Sensible, Kept}
 use Rattle.kernel.specs.Reducing.{Overspent, Overfull}

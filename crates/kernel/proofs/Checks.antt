@@ -15,7 +15,7 @@ use Rattle.theory.proofs.Decisions.{type-yes, type-no, sort-no}
 use Rattle.terms.specs.Words.{put, At}
 use Rattle.terms.specs.Writing.{Appends}
 use Rattle.terms.proofs.Appending.{append-keeps}
-use Rattle.kernel.specs.Question.{part, type-of, of-body, of-type, of-assumed, TakesLonger, entry-size, entry-depth}
+use Rattle.theory.specs.Question.{mentioned, type-of, of-body, of-type, of-assumed, TakesLonger, entry-size, entry-depth}
 use Rattle.kernel.specs.Inference.{Has, Covers, NeedsMore, z-end}
 use Rattle.kernel.specs.Machine.{Core, Task, Sensible}
 use Rattle.kernel.specs.Reducing.{NoSort}
@@ -132,13 +132,13 @@ module _ {e : Env} {t a b : Term} {i : ℕ} {index store context frames₁ heap 
   body-differs o (j, r, q) = type-no (f .wf) ctx-end (h .of) (o .left) (o .right) (o .apart) q
 
   pub body-spent : (most : ℕ) → ((u : Term) × (m : ℕ) × (0 + m ≡ suc most) × (normal-steps e m a ≡ some u)) ⊎ ((u : Term) × (m : ℕ) × (0 + m ≡ suc most) × (normal-steps e m b ≡ some u)) → TakesLonger e (defined t a) most
-  body-spent most (inl (u, m, p, r)) = (a, u, part (of-type whole), ap (λ (n : ℕ). normal-steps e n a) (let z : suc most ≡ m = omega (arith, p) in z) ∙ r)
+  body-spent most (inl (u, m, p, r)) = (a, u, mentioned (of-type whole), ap (λ (n : ℕ). normal-steps e n a) (let z : suc most ≡ m = omega (arith, p) in z) ∙ r)
   body-spent most (inr (u, m, p, r)) = (b, u, type-of (of-body whole) (h .infers), ap (λ (n : ℕ). normal-steps e n b) (let z : suc most ≡ m = omega (arith, p) in z) ∙ r)
 
   pub body-full : (most heap₁ heap₂ top stack₁ : ℕ) → heap₁ ≡ heap₂ → heap₁ ≤ stack₁ → top ≡ 3 * size b → FullPair e 0 most heap₁ top stack₁ b a → NeedsMore e (defined t a) most (16 * entry-size (defined t a) + 2 * heap₂)
   body-full most heap₁ heap₂ top stack₁ p l q o =
       let inferred = reached-start {most = most} (type-of (of-body whole) (h .infers)) in
       let left = reached-by {n = o .left-steps} (type-of (of-body whole) (h .infers)) (o .left-reaches) (omega (arith, o .left-within)) in
-      let right = reached-by {n = o .right-steps} (part (of-type whole)) (o .right-reaches) (o .right-within) in
+      let right = reached-by {n = o .right-steps} (mentioned (of-type whole)) (o .right-reaches) (o .right-within) in
       no-room {k = task e (defined t a) most t 0 []} z-end heap₂ (task-sensible (definition-body (f .core .0)) f most 0 []) inferred left right
       (elim (o .large) [ inl x ↦ omega (arith, x, p, q) | inr y ↦ omega (arith, y, p, l) ])

@@ -11,7 +11,7 @@ use Rattle.terms.specs.Words.{put, At, Holds, number}
 use Rattle.terms.specs.Writing.{Appends}
 use Rattle.terms.proofs.Appending.{append-keeps}
 use Rattle.kernel.specs.Inference.{Has, Worked, z-lam, z-under-pi, z-under-lam, held, NeedsMore}
-use Rattle.kernel.specs.Question.{entry-size}
+use Rattle.theory.specs.Question.{entry-size}
 use Rattle.kernel.specs.Machine.{place, behind, frame-words, kept-words, Task, Way, Sensible, Kept}
 use Rattle.kernel.specs.Turns.{Behind}
 use Rattle.kernel.proofs.Walk.{walk-context, pi-up, lam-up}

@@ -13,7 +13,7 @@ use Rattle.theory.specs.Environment.{Entry, Env}
 use Rattle.theory.specs.Reduction.{normal-steps}
 use Rattle.theory.specs.Typing.{whole, app-left}
 use Rattle.theory.proofs.Options.{cases-bool}
-use Rattle.kernel.specs.Question.{InQuestion, type-of, TakesMore, entry-size, entry-depth, env-size}
+use Rattle.theory.specs.Question.{InQuestion, type-of, TakesMore, entry-size, entry-depth, env-size}
 use Rattle.kernel.specs.Inference.{Has, Worked, Zipper, z-end, z-pi, z-under-pi, z-lam, z-under-lam, z-fun, z-arg, args, held, Covers, Reached, NeedsMore}
 use Rattle.kernel.proofs.Walk.{subterm-trans, walk-part, args-bound}
 

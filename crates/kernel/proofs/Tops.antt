@@ -18,7 +18,7 @@ use Rattle.terms.specs.Writing.{Appends}
 use Rattle.terms.proofs.Nodes.{put-length}
 use Rattle.terms.proofs.Appending.{append-keeps}
 use Rattle.reduction.specs.Stepping.{Stands}
-use Rattle.kernel.specs.Question.{entry-size}
+use Rattle.theory.specs.Question.{entry-size}
 use Rattle.kernel.specs.Inference.{Has, Untyped, held, Reached, NeedsMore}
 use Rattle.kernel.specs.Machine.{Core, place, leaf-type, Task, Way, Sensible, Kept}
 use Rattle.kernel.specs.Leaves.{LeafSays, turn-of}

@@ -8,7 +8,7 @@ use Rattle.theory.specs.Environment.{Entry, Env}
 use Rattle.theory.specs.Typing.{WfEntry}
 use Rattle.terms.specs.Words.{At}
 use Rattle.reduction.specs.Stepping.{Stands}
-use Rattle.kernel.specs.Question.{TakesLonger, entry-size}
+use Rattle.theory.specs.Question.{TakesLonger, entry-size}
 use Rattle.kernel.specs.Inference.{Has, Untyped, NeedsMore}
 use Rattle.kernel.specs.Machine.{ContextAt, Task}
 use Rattle.kernel.specs.Turns.{Given}

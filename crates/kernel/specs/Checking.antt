@@ -9,7 +9,7 @@ use Rattle.theory.specs.Typing.{HasType, WfEntry, WfEnv}
 use Rattle.terms.specs.Words.{At}
 use Rattle.reduction.specs.Stepping.{ClosedEnv, StaysScoped, Stands}
 use Rattle.kernel.specs.Environments.{PlainAt}
-use Rattle.kernel.specs.Question.{TakesLonger, entry-size}
+use Rattle.theory.specs.Question.{TakesLonger, entry-size}
 use Rattle.kernel.specs.Inference.{NeedsMore}
 use Rattle.kernel.specs.Machine.{Core, Task}
 use Rattle.kernel.specs.declared.check.Checked.{Checked}

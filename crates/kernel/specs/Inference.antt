@@ -8,7 +8,7 @@ use Rattle.theory.specs.Terms.{Term, sort, pi, lam, app, size}
 use Rattle.theory.specs.Environment.{Entry, Env}
 use Rattle.theory.specs.Reduction.{normal-steps}
 use Rattle.theory.specs.Typing.{HasType, Infers, FirstReduct, is-pi, is-sort, Subterm}
-use Rattle.kernel.specs.Question.{Mentions, InQuestion, entry-size, entry-depth}
+use Rattle.theory.specs.Question.{Mentions, InQuestion, entry-size, entry-depth}
 
 -- The term has no type.
 abbrev pub Untyped : Env → List Term → Term → Type 0

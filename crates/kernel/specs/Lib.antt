@@ -1,5 +1,4 @@
 -- What is in question while a declaration is checked; inference as a walk; the answers.
-pub mod Question
 pub mod Environments
 pub mod Inference
 pub mod Frames

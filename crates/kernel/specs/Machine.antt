@@ -9,7 +9,7 @@ use Rattle.theory.specs.Environment.{Entry, Env, head-type}
 use Rattle.theory.specs.Reduction.{map-option}
 use Rattle.theory.specs.Typing.{WfEnv, WfContext}
 use Rattle.terms.specs.Words.{put, number, At}
-use Rattle.kernel.specs.Question.{entry-size, entry-depth}
+use Rattle.theory.specs.Question.{entry-size, entry-depth}
 use Rattle.kernel.specs.Inference.{Has, Zipper, z-end, z-pi, z-under-pi, z-lam, z-under-lam, z-fun, z-arg, held, Covers}
 
 -- The terms of the core: of the heads only definitions and axioms, and levels of at most three digits.

@@ -6,7 +6,7 @@ use lib.ListN.{length, getD}
 use Rattle.theory.specs.Terms.{Term, size}
 use Rattle.reduction.specs.Stepping.{Stands}
 use Rattle.kernel.specs.Environments.{PlainAt}
-use Rattle.kernel.specs.Question.{TakesLonger, entry-size}
+use Rattle.theory.specs.Question.{TakesLonger, entry-size}
 use Rattle.kernel.specs.Inference.{Has, Untyped, NeedsMore}
 use Rattle.kernel.specs.Machine.{place, Task, Way, Sensible, Kept}
 use Rattle.kernel.specs.declared.turn.Spot.{Spot}

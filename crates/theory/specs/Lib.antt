@@ -3,4 +3,5 @@ pub mod Terms
 pub mod Environment
 pub mod Reduction
 pub mod Typing
+pub mod Question
 pub mod Theorems
