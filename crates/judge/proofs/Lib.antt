@@ -1,1 +1,2 @@
 -- Proofs of the judge.
+pub mod Standings
