@@ -1,4 +1,7 @@
 // check: judges texts of declarations, and says of each what came of it.
+
+#![tactic(auto)]
+
 mod answer;
 mod files;
 mod judging;

@@ -1,4 +1,7 @@
 // The judge: one call, one answer, under one promise.
+
+#![tactic(auto)]
+
 ghost use Rattle.std.specs.Prelude.{length};
 ghost use Rattle.judge.specs.Promise.{CheckedPost};
 

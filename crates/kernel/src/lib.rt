@@ -1,4 +1,7 @@
 // The type checker: inference by a loop over frames, and the checking of declarations.
+
+#![tactic(auto)]
+
 mod agree;
 mod argument;
 mod back;

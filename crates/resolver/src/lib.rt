@@ -1,4 +1,7 @@
 // Declarations as they are written turned into terms: names are resolved.
+
+#![tactic(auto)]
+
 pub mod declarations;
 pub mod names;
 pub mod nodes;

@@ -1,4 +1,7 @@
 // The text format: tokens, and the declarations that they say.
+
+#![tactic(auto)]
+
 mod atoms;
 mod data;
 mod declarations;

@@ -1,4 +1,7 @@
 // Terms kept in words: read, compared, copied, lifted, substituted.
+
+#![tactic(auto)]
+
 pub mod copy;
 pub mod lift;
 pub mod number;

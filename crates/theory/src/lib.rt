@@ -1,5 +1,7 @@
 // The theorems about the rules. Each function stands for one: its contract is the statement, and without the proof the crate fails.
 
+#![tactic(auto)]
+
 ghost use Rattle.theory.specs.Theorems.{Confluence, UniqueTypes, SubjectReduction, Validity, InferenceSound, InferenceComplete, EnvWeakening};
 
 // Convertible terms have a common reduct.
