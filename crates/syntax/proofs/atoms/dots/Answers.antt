@@ -4,27 +4,27 @@ use Rattle.syntax.proofs.Appending.{append_as, append_then}
 use Rattle.syntax.proofs.TreeWords.{named}
 use Rattle.syntax.proofs.atoms.dots.Goals as goal
 
-pub returns-in-default : goal.returns-in-default
-returns-in-default c =
-    let f = c.in-ok-first.ensures in
+pub returns-in_default : goal.returns-in_default
+returns-in_default c =
+    let f = c.in_ok-first.ensures in
     record {
-      value = e_at c.args.name.now (c.in-ok-first.first.value ∷ []);
-      reads = λ n h. rw (f.reads, c.in-default.ensures) refl;
-      wrote = append_then _ _ _ _ _ _ _ _ c.push-named-at.ensures c.push-two-end.ensures;
-      stage = c.indexed-stage-stage.ensures;
+      value = e_at c.args.name.now (c.in_ok-first.first.value ∷ []);
+      reads = λ n h. rw (f.reads, c.in_default.ensures) refl;
+      wrote = append_then _ _ _ _ _ _ _ _ c.push_named-at.ensures c.push_two-end.ensures;
+      stage = c.indexed_stage-stage.ensures;
       fewer = omega (arith, f.behind.fewer);
-      room = omega (arith, c.push-named-at.ensures.ends, c.push-two-end.ensures.ends, f.behind.shorter, c.requires.some);
+      room = omega (arith, c.push_named-at.ensures.ends, c.push_two-end.ensures.ends, f.behind.shorter, c.requires.some);
     }
 
 pub returns : goal.returns
 returns c =
-    let f = c.in-ok-first.ensures in
-    let s = c.in-ok-second.ensures in
+    let f = c.in_ok-first.ensures in
+    let s = c.in_ok-second.ensures in
     record {
-      value = e_at c.args.name.now (c.in-ok-first.first.value ∷ c.in-ok-second.second.value ∷ []);
+      value = e_at c.args.name.now (c.in_ok-first.first.value ∷ c.in_ok-second.second.value ∷ []);
       reads = λ n h. rw (f.reads, c.in-Some.ensures.0, s.reads) refl;
-      wrote = append_as _ _ _ _ _ _ (ap (λ (r : List ℕ). 2 ∷ length c.args.name.now ∷ r) (append_assoc c.args.name.now _ _)) (append_then _ _ _ _ _ _ _ _ (append_then _ _ _ _ _ _ _ _ c.push-named-at.ensures c.push-two-at.ensures) c.push-end.ensures);
-      stage = c.indexed-stage-stage.ensures;
+      wrote = append_as _ _ _ _ _ _ (ap (λ (r : List ℕ). 2 ∷ length c.args.name.now ∷ r) (append_assoc c.args.name.now _ _)) (append_then _ _ _ _ _ _ _ _ (append_then _ _ _ _ _ _ _ _ c.push_named-at.ensures c.push_two-at.ensures) c.push-end.ensures);
+      stage = c.indexed_stage-stage.ensures;
       fewer = omega (arith, f.behind.fewer, c.in-Some.ensures.1.fewer, s.behind.fewer);
-      room = omega (arith, c.push-named-at.ensures.ends, c.push-two-at.ensures.ends, c.push-end.ensures.ends, f.behind.shorter, s.behind.shorter, c.in-Some.ensures.1.shorter, c.requires.some);
+      room = omega (arith, c.push_named-at.ensures.ends, c.push_two-at.ensures.ends, c.push-end.ensures.ends, f.behind.shorter, s.behind.shorter, c.in-Some.ensures.1.shorter, c.requires.some);
     }

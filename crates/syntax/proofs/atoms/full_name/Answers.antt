@@ -6,12 +6,12 @@ use Rattle.syntax.proofs.atoms.full_name.Goals as goal
 
 pub returns : goal.returns
 returns c =
-    let w = c.in-ok-word.ensures in
+    let w = c.in_ok-word.ensures in
     record {
-      value = e_full c.in-ok-word.word.name.now;
+      value = e_full c.in_ok-word.word.name.now;
       reads = λ n h. rw w.reads refl;
-      wrote = append_as _ _ _ _ _ _ (named 3 _) c.push-named-end.ensures;
+      wrote = append_as _ _ _ _ _ _ (named 3 _) c.push_named-end.ensures;
       stage = refl;
       fewer = omega (arith, w.fewer);
-      room = omega (arith, c.push-named-end.ensures.ends, w.shorter, w.some-bytes);
+      room = omega (arith, c.push_named-end.ensures.ends, w.shorter, w.some-bytes);
     }

@@ -4,12 +4,12 @@ use Rattle.syntax.proofs.atoms.sort.Goals as goal
 
 pub returns : goal.returns
 returns c =
-    let l = c.in-ok-level.ensures in
+    let l = c.in_ok-level.ensures in
     record {
-      value = e_sort c.in-ok-level.level.value;
+      value = e_sort c.in_ok-level.level.value;
       reads = λ n h. rw l.reads refl;
-      wrote = c.push-two-end.ensures;
+      wrote = c.push_two-end.ensures;
       stage = refl;
       fewer = omega (arith, l.behind.fewer);
-      room = omega (arith, c.push-two-end.ensures.ends, l.behind.shorter);
+      room = omega (arith, c.push_two-end.ensures.ends, l.behind.shorter);
     }

@@ -13,23 +13,23 @@ use Rattle.syntax.proofs.data.constructor.Goals as goal
 
 pub returns : goal.returns
 returns c =
-    let w = c.in-ok-word.ensures in
-    let p = c.in-ok-fields.ensures in
-    let a = c.in-ok-rest.ensures in
-    let k = c.in-ok-recs.ensures in
-    let s = c.in-ok-rest-2.ensures in
-    let x = c.in-ok-word.word.name.now in
-    let m = c.in-ok-recs.recs.value in
+    let w = c.in_ok-word.ensures in
+    let p = c.in_ok-fields.ensures in
+    let a = c.in_ok-rest.ensures in
+    let k = c.in_ok-recs.ensures in
+    let s = c.in_ok-rest-2.ensures in
+    let x = c.in_ok-word.word.name.now in
+    let m = c.in_ok-recs.recs.value in
     record {
       value = record { name = x; fields = p.value; recs = m };
       reads = λ n h. then_is _ _ w.reads (then_is _ _ (p.reads n (omega (arith, h, w.fewer))) (bind_is _ _ a.0 (then_is _ _ k.reads (bind_is _ _ s.0 refl))));
       wrote = append_as _ _ _ _ _ _ (ap (λ (z : List ℕ). 12 ∷ length x ∷ z) (append_assoc x _ _ ∙ ap (λ (z : List ℕ). x ++ z) (sym (params_then p.value [] (m ∷ [])))))
-          (append_then _ _ _ _ _ _ _ _ (append_then _ _ _ _ _ _ _ _ c.push-named-at.ensures p.wrote) c.push-end.ensures);
-      notes = record { left = length c.in-ok-word.word.rest.now; name = x } ∷ [];
+          (append_then _ _ _ _ _ _ _ _ (append_then _ _ _ _ _ _ _ _ c.push_named-at.ensures p.wrote) c.push-end.ensures);
+      notes = record { left = length c.in_ok-word.word.rest.now; name = x } ∷ [];
       named = refl;
       noted = append_as _ _ _ _ _ _ (note_alone _ _) c.note-noted.ensures;
       stage = p.stage;
       fewer = omega (arith, w.fewer, p.fewer, a.1.fewer, k.behind.fewer, s.1.fewer);
-      room = omega (arith, w.shorter, w.some-bytes, c.push-named-at.ensures.ends, p.room, a.1.shorter, k.behind.shorter, s.1.shorter, c.push-end.ensures.ends);
+      room = omega (arith, w.shorter, w.some-bytes, c.push_named-at.ensures.ends, p.room, a.1.shorter, k.behind.shorter, s.1.shorter, c.push-end.ensures.ends);
       note_room = omega (arith, w.shorter, w.some-bytes, c.note-noted.ensures.ends, p.room, p.wrote.ends, a.1.shorter, k.behind.shorter, s.1.shorter);
     }

@@ -18,17 +18,17 @@ use Rattle.syntax.proofs.data.constructors.Goals as goal
 pub loop-behind-init : goal.loop-behind-init
 loop-behind-init c = items_start read_cons con_words con_name con_stage _ _ _ _ _
 
-pub returns-in-err-con : goal.returns-in-err-con
-returns-in-err-con c =
-    declares_fail _ _ _ _ _ _ _ _ _ _ _ _ c.from-residual.result c.from-residual.ensures.0
+pub returns-in_err-con : goal.returns-in_err-con
+returns-in_err-con c =
+    declares_fail _ _ _ _ _ _ _ _ _ _ _ _ c.from_residual.result c.from_residual.ensures.0
     (λ n h. items_none read_cons con_words con_name con_stage _ _ _ _ _ _ _ _ _ _ _ c.loop-behind.invariant
-    (λ k l. cons_stop k (tokens c.loop-behind.rest.now) c.in-default.ensures (c.in-err-con.ensures k (omega (arith, l)))) n (omega (arith, h)))
+    (λ k l. cons_stop k (tokens c.loop-behind.rest.now) c.in_default.ensures (c.in_err-con.ensures k (omega (arith, l)))) n (omega (arith, h)))
 
 pub loop-behind-preserved : goal.loop-behind-preserved
 loop-behind-preserved c =
-    let d = c.in-ok-con.ensures in
+    let d = c.in_ok-con.ensures in
     items_more read_cons con_words con_name con_stage _ _ _ _ _ _ _ _ _ _ _ _ _ _ _ _ _ _ d.value d.notes c.loop-behind.invariant
-    (λ k l. cons_next k (tokens c.loop-behind.rest.now) _ d.value c.in-default.ensures (d.reads k (omega (arith, l))))
+    (λ k l. cons_next k (tokens c.loop-behind.rest.now) _ d.value c.in_default.ensures (d.reads k (omega (arith, l))))
     d.wrote d.named d.noted d.stage c.max-stage.ensures d.fewer d.room d.note_room
 
 pub returns-in-Some : goal.returns-in-Some

@@ -13,72 +13,72 @@ use Rattle.syntax.proofs.DeclReadings.{data_parts, data_rest, head_apart, params
 use Rattle.syntax.proofs.Items.{append_notes, notes_named}
 use Rattle.syntax.proofs.data.data_type.Goals as goal
 
-pub returns-in-err-start : goal.returns-in-err-start
-returns-in-err-start c =
-    declares_fail _ _ _ _ _ _ _ _ _ _ _ _ c.from-residual.result c.from-residual.ensures.0
-    (λ n h. data_parts n (tokens c.args.bytes.now) ∙ then_not (read_head n (tokens c.args.bytes.now)) (data_rest n) (c.in-err-start.ensures n h))
+pub returns-in_err-start : goal.returns-in_err-start
+returns-in_err-start c =
+    declares_fail _ _ _ _ _ _ _ _ _ _ _ _ c.from_residual.result c.from_residual.ensures.0
+    (λ n h. data_parts n (tokens c.args.bytes.now) ∙ then_not (read_head n (tokens c.args.bytes.now)) (data_rest n) (c.in_err-start.ensures n h))
 
-pub returns-in-err-params : goal.returns-in-err-params
-returns-in-err-params c =
-    let s = c.in-ok-start.ensures in
-    declares_fail _ _ _ _ _ _ _ _ _ _ _ _ c.from-residual-in-err-params.result c.from-residual-in-err-params.ensures.0
-    (λ n h. data_parts n (tokens c.args.bytes.now) ∙ then_is (read_head n (tokens c.args.bytes.now)) (data_rest n) (s.reads n h) (then_not _ _ (c.in-err-params.ensures n (omega (arith, h, s.fewer)))))
+pub returns-in_err-params : goal.returns-in_err-params
+returns-in_err-params c =
+    let s = c.in_ok-start.ensures in
+    declares_fail _ _ _ _ _ _ _ _ _ _ _ _ c.from_residual-in_err-params.result c.from_residual-in_err-params.ensures.0
+    (λ n h. data_parts n (tokens c.args.bytes.now) ∙ then_is (read_head n (tokens c.args.bytes.now)) (data_rest n) (s.reads n h) (then_not _ _ (c.in_err-params.ensures n (omega (arith, h, s.fewer)))))
 
-pub returns-in-err-rest : goal.returns-in-err-rest
-returns-in-err-rest c =
-    let s = c.in-ok-start.ensures in
-    let p = c.in-ok-params.ensures in
-    declares_fail _ _ _ _ _ _ _ _ _ _ _ _ c.from-residual-in-err-rest.result c.from-residual-in-err-rest.ensures.0
-    (λ n h. data_parts n (tokens c.args.bytes.now) ∙ then_is (read_head n (tokens c.args.bytes.now)) (data_rest n) (s.reads n h) (then_is _ _ (p.reads n (omega (arith, h, s.fewer))) (bind_not _ _ c.in-err-rest.ensures)))
+pub returns-in_err-rest : goal.returns-in_err-rest
+returns-in_err-rest c =
+    let s = c.in_ok-start.ensures in
+    let p = c.in_ok-params.ensures in
+    declares_fail _ _ _ _ _ _ _ _ _ _ _ _ c.from_residual-in_err-rest.result c.from_residual-in_err-rest.ensures.0
+    (λ n h. data_parts n (tokens c.args.bytes.now) ∙ then_is (read_head n (tokens c.args.bytes.now)) (data_rest n) (s.reads n h) (then_is _ _ (p.reads n (omega (arith, h, s.fewer))) (bind_not _ _ c.in_err-rest.ensures)))
 
-pub returns-in-err-rest-2 : goal.returns-in-err-rest-2
-returns-in-err-rest-2 c =
-    let s = c.in-ok-start.ensures in
-    let p = c.in-ok-params.ensures in
-    let e = c.in-ok-rest.ensures in
-    declares_fail _ _ _ _ _ _ _ _ _ _ _ _ c.from-residual-in-err-rest-2.result c.from-residual-in-err-rest-2.ensures.0
-    (λ n h. data_parts n (tokens c.args.bytes.now) ∙ then_is (read_head n (tokens c.args.bytes.now)) (data_rest n) (s.reads n h) (then_is _ _ (p.reads n (omega (arith, h, s.fewer))) (bind_is _ _ e.0 (bind_not _ _ c.in-err-rest-2.ensures))))
+pub returns-in_err-rest-2 : goal.returns-in_err-rest-2
+returns-in_err-rest-2 c =
+    let s = c.in_ok-start.ensures in
+    let p = c.in_ok-params.ensures in
+    let e = c.in_ok-rest.ensures in
+    declares_fail _ _ _ _ _ _ _ _ _ _ _ _ c.from_residual-in_err-rest-2.result c.from_residual-in_err-rest-2.ensures.0
+    (λ n h. data_parts n (tokens c.args.bytes.now) ∙ then_is (read_head n (tokens c.args.bytes.now)) (data_rest n) (s.reads n h) (then_is _ _ (p.reads n (omega (arith, h, s.fewer))) (bind_is _ _ e.0 (bind_not _ _ c.in_err-rest-2.ensures))))
 
-pub returns-in-err-level : goal.returns-in-err-level
-returns-in-err-level c =
-    let s = c.in-ok-start.ensures in
-    let p = c.in-ok-params.ensures in
-    let e = c.in-ok-rest.ensures in
-    let f = c.in-ok-rest-2.ensures in
-    declares_fail _ _ _ _ _ _ _ _ _ _ _ _ c.from-residual-in-err-level.result c.from-residual-in-err-level.ensures.0
-    (λ n h. data_parts n (tokens c.args.bytes.now) ∙ then_is (read_head n (tokens c.args.bytes.now)) (data_rest n) (s.reads n h) (then_is _ _ (p.reads n (omega (arith, h, s.fewer))) (bind_is _ _ e.0 (bind_is _ _ f.0 (then_not _ _ c.in-err-level.ensures)))))
+pub returns-in_err-level : goal.returns-in_err-level
+returns-in_err-level c =
+    let s = c.in_ok-start.ensures in
+    let p = c.in_ok-params.ensures in
+    let e = c.in_ok-rest.ensures in
+    let f = c.in_ok-rest-2.ensures in
+    declares_fail _ _ _ _ _ _ _ _ _ _ _ _ c.from_residual-in_err-level.result c.from_residual-in_err-level.ensures.0
+    (λ n h. data_parts n (tokens c.args.bytes.now) ∙ then_is (read_head n (tokens c.args.bytes.now)) (data_rest n) (s.reads n h) (then_is _ _ (p.reads n (omega (arith, h, s.fewer))) (bind_is _ _ e.0 (bind_is _ _ f.0 (then_not _ _ c.in_err-level.ensures)))))
 
-pub returns-in-err-rest-3 : goal.returns-in-err-rest-3
-returns-in-err-rest-3 c =
-    let s = c.in-ok-start.ensures in
-    let p = c.in-ok-params.ensures in
-    let e = c.in-ok-rest.ensures in
-    let f = c.in-ok-rest-2.ensures in
-    let l = c.in-ok-level.ensures in
-    declares_fail _ _ _ _ _ _ _ _ _ _ _ _ c.from-residual-in-err-rest-3.result c.from-residual-in-err-rest-3.ensures.0
-    (λ n h. data_parts n (tokens c.args.bytes.now) ∙ then_is (read_head n (tokens c.args.bytes.now)) (data_rest n) (s.reads n h) (then_is _ _ (p.reads n (omega (arith, h, s.fewer))) (bind_is _ _ e.0 (bind_is _ _ f.0 (then_is _ _ l.reads (bind_not _ _ c.in-err-rest-3.ensures))))))
+pub returns-in_err-rest-3 : goal.returns-in_err-rest-3
+returns-in_err-rest-3 c =
+    let s = c.in_ok-start.ensures in
+    let p = c.in_ok-params.ensures in
+    let e = c.in_ok-rest.ensures in
+    let f = c.in_ok-rest-2.ensures in
+    let l = c.in_ok-level.ensures in
+    declares_fail _ _ _ _ _ _ _ _ _ _ _ _ c.from_residual-in_err-rest-3.result c.from_residual-in_err-rest-3.ensures.0
+    (λ n h. data_parts n (tokens c.args.bytes.now) ∙ then_is (read_head n (tokens c.args.bytes.now)) (data_rest n) (s.reads n h) (then_is _ _ (p.reads n (omega (arith, h, s.fewer))) (bind_is _ _ e.0 (bind_is _ _ f.0 (then_is _ _ l.reads (bind_not _ _ c.in_err-rest-3.ensures))))))
 
-pub returns-in-err-cons : goal.returns-in-err-cons
-returns-in-err-cons c =
-    let s = c.in-ok-start.ensures in
-    let p = c.in-ok-params.ensures in
-    let e = c.in-ok-rest.ensures in
-    let f = c.in-ok-rest-2.ensures in
-    let l = c.in-ok-level.ensures in
-    let g = c.in-ok-rest-3.ensures in
-    declares_fail _ _ _ _ _ _ _ _ _ _ _ _ c.from-residual-in-err-cons.result c.from-residual-in-err-cons.ensures.0
-    (λ n h. data_parts n (tokens c.args.bytes.now) ∙ then_is (read_head n (tokens c.args.bytes.now)) (data_rest n) (s.reads n h) (then_is _ _ (p.reads n (omega (arith, h, s.fewer))) (bind_is _ _ e.0 (bind_is _ _ f.0 (then_is _ _ l.reads (bind_is _ _ g.0 (then_not _ _ (c.in-err-cons.ensures n (omega (arith, h, s.fewer, p.fewer, e.1.fewer, f.1.fewer, l.behind.fewer, g.1.fewer))))))))))
+pub returns-in_err-cons : goal.returns-in_err-cons
+returns-in_err-cons c =
+    let s = c.in_ok-start.ensures in
+    let p = c.in_ok-params.ensures in
+    let e = c.in_ok-rest.ensures in
+    let f = c.in_ok-rest-2.ensures in
+    let l = c.in_ok-level.ensures in
+    let g = c.in_ok-rest-3.ensures in
+    declares_fail _ _ _ _ _ _ _ _ _ _ _ _ c.from_residual-in_err-cons.result c.from_residual-in_err-cons.ensures.0
+    (λ n h. data_parts n (tokens c.args.bytes.now) ∙ then_is (read_head n (tokens c.args.bytes.now)) (data_rest n) (s.reads n h) (then_is _ _ (p.reads n (omega (arith, h, s.fewer))) (bind_is _ _ e.0 (bind_is _ _ f.0 (then_is _ _ l.reads (bind_is _ _ g.0 (then_not _ _ (c.in_err-cons.ensures n (omega (arith, h, s.fewer, p.fewer, e.1.fewer, f.1.fewer, l.behind.fewer, g.1.fewer))))))))))
 
 pub returns : goal.returns
 returns c =
-    let s = c.in-ok-start.ensures in
-    let p = c.in-ok-params.ensures in
-    let e = c.in-ok-rest.ensures in
-    let f = c.in-ok-rest-2.ensures in
-    let l = c.in-ok-level.ensures in
-    let g = c.in-ok-rest-3.ensures in
-    let k = c.in-ok-cons.ensures in
-    let v = c.in-ok-level.level.value in
+    let s = c.in_ok-start.ensures in
+    let p = c.in_ok-params.ensures in
+    let e = c.in_ok-rest.ensures in
+    let f = c.in_ok-rest-2.ensures in
+    let l = c.in_ok-level.ensures in
+    let g = c.in_ok-rest-3.ensures in
+    let k = c.in_ok-cons.ensures in
+    let v = c.in_ok-level.level.value in
     record {
       value = d_data s.value.name s.value.hidden p.value v k.value;
       reads = λ n h. data_parts n (tokens c.args.bytes.now) ∙ then_is (read_head n (tokens c.args.bytes.now)) (data_rest n) (s.reads n h) (then_is _ _ (p.reads n (omega (arith, h, s.fewer))) (bind_is _ _ e.0 (bind_is _ _ f.0 (then_is _ _ l.reads (bind_is _ _ g.0 (then_is _ _ (k.reads n (omega (arith, h, s.fewer, p.fewer, e.1.fewer, f.1.fewer, l.behind.fewer, g.1.fewer))) refl))))));

@@ -12,49 +12,49 @@ use Rattle.syntax.proofs.TermReadings.{bind_is, then_not, term_at}
 use Rattle.syntax.proofs.DeclReadings.{def_parts, def_rest, head_apart, declares_fail}
 use Rattle.syntax.proofs.declarations.definition.Goals as goal
 
-pub returns-in-err-start : goal.returns-in-err-start
-returns-in-err-start c =
-    declares_fail _ _ _ _ _ _ _ _ _ _ _ _ c.from-residual.result c.from-residual.ensures.0 (λ n h. def_parts n (tokens c.args.bytes.now) ∙ then_not (read_head n (tokens c.args.bytes.now)) (def_rest n) (c.in-err-start.ensures n h))
+pub returns-in_err-start : goal.returns-in_err-start
+returns-in_err-start c =
+    declares_fail _ _ _ _ _ _ _ _ _ _ _ _ c.from_residual.result c.from_residual.ensures.0 (λ n h. def_parts n (tokens c.args.bytes.now) ∙ then_not (read_head n (tokens c.args.bytes.now)) (def_rest n) (c.in_err-start.ensures n h))
 
-pub returns-in-err-of-type : goal.returns-in-err-of-type
-returns-in-err-of-type c =
-    let s = c.in-ok-start.ensures in
-    declares_fail _ _ _ _ _ _ _ _ _ _ _ _ c.from-residual-in-err-of-type.result c.from-residual-in-err-of-type.ensures.0
-    (λ n h. def_parts n (tokens c.args.bytes.now) ∙ then_is (read_head n (tokens c.args.bytes.now)) (def_rest n) (s.reads n h) (then_not _ _ (c.in-err-of-type.ensures n (omega (arith, h, s.fewer)))))
+pub returns-in_err-of_type : goal.returns-in_err-of_type
+returns-in_err-of_type c =
+    let s = c.in_ok-start.ensures in
+    declares_fail _ _ _ _ _ _ _ _ _ _ _ _ c.from_residual-in_err-of_type.result c.from_residual-in_err-of_type.ensures.0
+    (λ n h. def_parts n (tokens c.args.bytes.now) ∙ then_is (read_head n (tokens c.args.bytes.now)) (def_rest n) (s.reads n h) (then_not _ _ (c.in_err-of_type.ensures n (omega (arith, h, s.fewer)))))
 
-pub returns-in-err-rest : goal.returns-in-err-rest
-returns-in-err-rest c =
-    let s = c.in-ok-start.ensures in
-    let t = c.in-ok-of-type.ensures in
-    declares_fail _ _ _ _ _ _ _ _ _ _ _ _ c.from-residual-in-err-rest.result c.from-residual-in-err-rest.ensures.0
-    (λ n h. def_parts n (tokens c.args.bytes.now) ∙ then_is (read_head n (tokens c.args.bytes.now)) (def_rest n) (s.reads n h) (then_is _ _ (t.reads n (omega (arith, h, s.fewer))) (bind_not _ _ c.in-err-rest.ensures)))
+pub returns-in_err-rest : goal.returns-in_err-rest
+returns-in_err-rest c =
+    let s = c.in_ok-start.ensures in
+    let t = c.in_ok-of_type.ensures in
+    declares_fail _ _ _ _ _ _ _ _ _ _ _ _ c.from_residual-in_err-rest.result c.from_residual-in_err-rest.ensures.0
+    (λ n h. def_parts n (tokens c.args.bytes.now) ∙ then_is (read_head n (tokens c.args.bytes.now)) (def_rest n) (s.reads n h) (then_is _ _ (t.reads n (omega (arith, h, s.fewer))) (bind_not _ _ c.in_err-rest.ensures)))
 
-pub returns-in-err-body : goal.returns-in-err-body
-returns-in-err-body c =
-    let s = c.in-ok-start.ensures in
-    let t = c.in-ok-of-type.ensures in
-    let e = c.in-ok-rest.ensures in
-    declares_fail _ _ _ _ _ _ _ _ _ _ _ _ c.from-residual-in-err-body.result c.from-residual-in-err-body.ensures.0
+pub returns-in_err-body : goal.returns-in_err-body
+returns-in_err-body c =
+    let s = c.in_ok-start.ensures in
+    let t = c.in_ok-of_type.ensures in
+    let e = c.in_ok-rest.ensures in
+    declares_fail _ _ _ _ _ _ _ _ _ _ _ _ c.from_residual-in_err-body.result c.from_residual-in_err-body.ensures.0
     (λ n h. def_parts n (tokens c.args.bytes.now) ∙ then_is (read_head n (tokens c.args.bytes.now)) (def_rest n) (s.reads n h) (then_is _ _ (t.reads n (omega (arith, h, s.fewer))) (bind_is _ _ e.0
-    (then_not _ _ (term_at n _ ∙ c.in-err-body.ensures n (omega (arith, h, s.fewer, t.fewer, e.1.fewer)))))))
+    (then_not _ _ (term_at n _ ∙ c.in_err-body.ensures n (omega (arith, h, s.fewer, t.fewer, e.1.fewer)))))))
 
-pub returns-in-err-rest-2 : goal.returns-in-err-rest-2
-returns-in-err-rest-2 c =
-    let s = c.in-ok-start.ensures in
-    let t = c.in-ok-of-type.ensures in
-    let e = c.in-ok-rest.ensures in
-    let b = c.in-ok-body.ensures in
-    declares_fail _ _ _ _ _ _ _ _ _ _ _ _ c.from-residual-in-err-rest-2.result c.from-residual-in-err-rest-2.ensures.0
+pub returns-in_err-rest-2 : goal.returns-in_err-rest-2
+returns-in_err-rest-2 c =
+    let s = c.in_ok-start.ensures in
+    let t = c.in_ok-of_type.ensures in
+    let e = c.in_ok-rest.ensures in
+    let b = c.in_ok-body.ensures in
+    declares_fail _ _ _ _ _ _ _ _ _ _ _ _ c.from_residual-in_err-rest-2.result c.from_residual-in_err-rest-2.ensures.0
     (λ n h. def_parts n (tokens c.args.bytes.now) ∙ then_is (read_head n (tokens c.args.bytes.now)) (def_rest n) (s.reads n h) (then_is _ _ (t.reads n (omega (arith, h, s.fewer))) (bind_is _ _ e.0
-    (then_is _ _ (term_at n _ ∙ b.reads n (omega (arith, h, s.fewer, t.fewer, e.1.fewer))) (bind_not _ _ c.in-err-rest-2.ensures)))))
+    (then_is _ _ (term_at n _ ∙ b.reads n (omega (arith, h, s.fewer, t.fewer, e.1.fewer))) (bind_not _ _ c.in_err-rest-2.ensures)))))
 
 pub returns : goal.returns
 returns c =
-    let s = c.in-ok-start.ensures in
-    let t = c.in-ok-of-type.ensures in
-    let e = c.in-ok-rest.ensures in
-    let b = c.in-ok-body.ensures in
-    let f = c.in-ok-rest-2.ensures in
+    let s = c.in_ok-start.ensures in
+    let t = c.in_ok-of_type.ensures in
+    let e = c.in_ok-rest.ensures in
+    let b = c.in_ok-body.ensures in
+    let f = c.in_ok-rest-2.ensures in
     record {
       value = d_def s.value.name s.value.hidden t.value b.value;
       reads = λ n h. def_parts n (tokens c.args.bytes.now) ∙ then_is (read_head n (tokens c.args.bytes.now)) (def_rest n) (s.reads n h) (then_is _ _ (t.reads n (omega (arith, h, s.fewer))) (bind_is _ _ e.0

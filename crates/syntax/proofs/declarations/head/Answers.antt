@@ -7,17 +7,17 @@ use Rattle.syntax.proofs.declarations.head.Goals as goal
 
 pub returns : goal.returns
 returns c =
-    let w = c.in-ok-word.ensures in
-    let h = c.in-ok-hidden.ensures in
+    let w = c.in_ok-word.ensures in
+    let h = c.in_ok-hidden.ensures in
     record {
-      value = record { name = c.in-ok-word.word.name.now; hidden = c.in-ok-hidden.hidden.value };
+      value = record { name = c.in_ok-word.word.name.now; hidden = c.in_ok-hidden.hidden.value };
       reads = λ n l. then_is _ _ w.reads (then_is _ _ h.reads refl);
-      wrote = append_then _ _ _ _ _ _ _ _ c.push-named-at.ensures c.push-end.ensures;
-      notes = record { left = length c.in-ok-word.word.rest.now; name = c.in-ok-word.word.name.now } ∷ [];
+      wrote = append_then _ _ _ _ _ _ _ _ c.push_named-at.ensures c.push-end.ensures;
+      notes = record { left = length c.in_ok-word.word.rest.now; name = c.in_ok-word.word.name.now } ∷ [];
       named = refl;
       noted = append_as _ _ _ _ _ _ (note_alone _ _) c.note-noted.ensures;
       stage = elim c.if-hidden-eq0.branch [ then-hidden-eq0 w ↦ w.stage-is ∙ hidden_none _ w.if-hidden-eq0.true | else-hidden-eq0 w ↦ w.stage-is ∙ hidden_some _ w.if-hidden-eq0.false ];
       fewer = omega (arith, w.fewer, h.fewer);
-      room = omega (arith, w.shorter, w.some-bytes, h.shorter, c.push-named-at.ensures.ends, c.push-end.ensures.ends);
+      room = omega (arith, w.shorter, w.some-bytes, h.shorter, c.push_named-at.ensures.ends, c.push-end.ensures.ends);
       note_room = omega (arith, w.shorter, w.some-bytes, h.shorter, c.note-noted.ensures.ends);
     }

@@ -12,16 +12,16 @@ use Rattle.syntax.proofs.declarations.params.Goals as goal
 pub loop-inner-init : goal.loop-inner-init
 loop-inner-init c = items_start read_params param_words (λ p. []) param_stage _ _ _ _ _
 
-pub returns-in-err-read : goal.returns-in-err-read
-returns-in-err-read c =
+pub returns-in_err-read : goal.returns-in_err-read
+returns-in_err-read c =
     let e = c.in-Some.ensures in
-    fails _ _ _ _ _ _ _ _ _ c.from-residual.result c.from-residual.ensures.0
-    (items_none read_params param_words (λ p. []) param_stage _ _ _ _ _ _ _ _ _ _ _ c.loop-inner.invariant (λ k l. params_stop k (tokens c.loop-inner.rest.now) _ e.0 (c.in-err-read.ensures k (omega (arith, l, e.1.fewer)))))
+    fails _ _ _ _ _ _ _ _ _ c.from_residual.result c.from_residual.ensures.0
+    (items_none read_params param_words (λ p. []) param_stage _ _ _ _ _ _ _ _ _ _ _ c.loop-inner.invariant (λ k l. params_stop k (tokens c.loop-inner.rest.now) _ e.0 (c.in_err-read.ensures k (omega (arith, l, e.1.fewer)))))
 
 pub loop-inner-preserved : goal.loop-inner-preserved
 loop-inner-preserved c =
     let e = c.in-Some.ensures in
-    let d = c.in-ok-read.ensures in
+    let d = c.in_ok-read.ensures in
     items_more read_params param_words (λ p. []) param_stage _ _ _ _ _ _ _ _ _ _ _ _ _ _ _ _ _ _ d.value [] c.loop-inner.invariant
     (λ k l. params_next k (tokens c.loop-inner.rest.now) _ _ _ e.0 (d.reads k (omega (arith, l, e.1.fewer))))
     d.wrote refl (append_to _ _ _ _ _ _ refl (append_none [] 0)) d.stage c.max-stage.ensures
@@ -32,7 +32,7 @@ returns c =
     let v = c.loop-inner.invariant in
     record {
       value = v.items;
-      reads = items_end read_params param_words (λ p. []) param_stage _ _ _ _ _ _ _ _ _ _ _ (tokens c.loop-inner.rest.now) v (λ k l. option_not _ _ _ c.in-default.ensures refl);
+      reads = items_end read_params param_words (λ p. []) param_stage _ _ _ _ _ _ _ _ _ _ _ (tokens c.loop-inner.rest.now) v (λ k l. option_not _ _ _ c.in_default.ensures refl);
       wrote = append_as _ _ _ _ _ _ (params_apart v.items []) (append_then _ _ _ _ _ _ _ _ v.wrote c.push-end.ensures);
       stage = v.stages ∙ params_level v.items;
       fewer = omega (arith, v.fewer);

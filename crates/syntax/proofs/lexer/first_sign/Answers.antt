@@ -4,7 +4,7 @@ use Rattle.syntax.specs.Tokens.{tokens}
 use Rattle.syntax.specs.Lexing.{lexeme}
 use Rattle.syntax.proofs.Cutting.{sign_at, symbol_at, one_first, two_first}
 use Rattle.syntax.proofs.lexer.first_sign.Goals as goal
-use Rattle.syntax.proofs.lexer.first_sign.Goals.{then-bytes-gt1+in-default, else-bytes-gt1}
+use Rattle.syntax.proofs.lexer.first_sign.Goals.{then-bytes-gt1+in_default, else-bytes-gt1}
 
 pub returns-in-Some : goal.returns-in-Some
 returns-in-Some c =
@@ -30,7 +30,7 @@ returns c =
     let p : bs ≡ get_or bs 0 0 ∷ take (length bs - 1) (drop 1 bs) = one_first bs c.requires.some ∙ ap (λ (r : List ℕ). get_or bs 0 0 ∷ r) (sym (take_rest bs 1)) in
     record {
       first = symbol_at bs c.requires.some c.requires.solid c.requires.symbol
-          (λ h. elim c.if-bytes-gt1.branch [ then-bytes-gt1+in-default w ↦ w.in-default.ensures | else-bytes-gt1 w ↦ absurd (let z : ⊥ = omega (arith, w.if-bytes-gt1.false) in z) ])
+          (λ h. elim c.if-bytes-gt1.branch [ then-bytes-gt1+in_default w ↦ w.in_default.ensures | else-bytes-gt1 w ↦ absurd (let z : ⊥ = omega (arith, w.if-bytes-gt1.false) in z) ])
           ∙ ap (λ (r : List ℕ). (get_or bs 0 0 ∷ []) ∷ tokens r) (sym (take_rest bs 1));
       front = [];
       place = p;

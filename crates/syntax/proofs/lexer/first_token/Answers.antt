@@ -7,9 +7,9 @@ use Rattle.syntax.proofs.lexer.first_token.Goals as goal
 pub returns : goal.returns
 returns c =
     let bs = c.args.bytes.now in
-    let n = c.word-len-n.result in
-    let w = c.word-len-n.ensures in
-    let l = sym c.if-not-is-letter.ensures in
+    let n = c.word_len-n.result in
+    let w = c.word_len-n.ensures in
+    let l = sym c.if-not-is_letter.ensures in
     let r : length (take (length bs - n) (drop n bs)) ≡ length bs - n = ap length (take_rest bs n) ∙ length-drop n bs in
     let t : length (take n bs) ≡ min n (length bs) = length-take n bs in
     let p : bs ≡ take n bs ++ take (length bs - n) (drop n bs) = sym (take-append-drop n bs) ∙ ap (λ (r : List ℕ). take n bs ++ r) (sym (take_rest bs n)) in

@@ -4,15 +4,15 @@ use Rattle.syntax.specs.Tokens.{tokens}
 use Rattle.syntax.proofs.lexer.next_token.Goals as goal
 
 pub returns-then-start-bytes : goal.returns-then-start-bytes
-returns-then-start-bytes c = c.blank-len-start.ensures.keeps ∙ ap tokens (drop_of_length-le c.args.bytes.now (omega (arith, c.if-start-bytes.true)))
+returns-then-start-bytes c = c.blank_len-start.ensures.keeps ∙ ap tokens (drop_of_length-le c.args.bytes.now (omega (arith, c.if-start-bytes.true)))
 
 pub returns : goal.returns
 returns c =
     let bs = c.args.bytes.now in
-    let n = c.blank-len-start.result in
-    let f = c.first-token.ensures in
+    let n = c.blank_len-start.result in
+    let f = c.first_token.ensures in
     let r : length (take (length bs - n) (drop n bs)) ≡ length bs - n = ap length (take_rest bs n) ∙ length-drop n bs in
-    let k : tokens bs ≡ tokens (take (length bs - n) (drop n bs)) = c.blank-len-start.ensures.keeps ∙ ap tokens (sym (take_rest bs n)) in
+    let k : tokens bs ≡ tokens (take (length bs - n) (drop n bs)) = c.blank_len-start.ensures.keeps ∙ ap tokens (sym (take_rest bs n)) in
     record {
       first = k ∙ f.first;
       front = take n bs ++ f.front;

@@ -22,8 +22,8 @@ returns-in-Some c ns e =
     let f = first_note c.args.names.now c.loop-place.place v.0 c.loop-place-test.true v.1 in
     v.2 ∙ ap (λ ms. once (note_names ms)) f.2 ∙ once_not f.0.name _ (c.in-Some.ensures f.0 f.1 (v.1 ∙ ap note_words f.2))
 
-pub name-at-name-requires : goal.name-at-name-requires
-name-at-name-requires c =
+pub name_at-name-requires : goal.name_at-name-requires
+name_at-name-requires c =
     let v = c.loop-place.invariant.1 c.requires.0 c.requires.1 in
     at_place c.args.names.now c.loop-place.place v.0 c.loop-place-test.true v.1
 
@@ -33,14 +33,14 @@ loop-place-preserved c =
     let w = c.loop-place.invariant.1 c.requires.0 c.requires.1 in
     let g = at_place ws c.loop-place.place w.0 c.loop-place-test.true w.1 in
     let z = note_length ws c.loop-place.place g.0 g.1 g.2 in (
-      omega (arith, z, ap length (c.name-at-name.ensures g.0 g.1 g.2)),
+      omega (arith, z, ap length (c.name_at-name.ensures g.0 g.1 g.2)),
       λ ns e.
           let v = c.loop-place.invariant.1 ns e in
           let f = first_note ws c.loop-place.place v.0 c.loop-place-test.true v.1 in
           let d = v.1 ∙ ap note_words f.2 in (
             f.1,
-            note_next ws c.loop-place.place f.0 f.1 d _ (ap length (c.name-at-name.ensures f.0 f.1 d)),
-            v.2 ∙ ap (λ ms. once (note_names ms)) f.2 ∙ once_rest f.0.name _ (c.in-default.ensures f.0 f.1 d),
+            note_next ws c.loop-place.place f.0 f.1 d _ (ap length (c.name_at-name.ensures f.0 f.1 d)),
+            v.2 ∙ ap (λ ms. once (note_names ms)) f.2 ∙ once_rest f.0.name _ (c.in_default.ensures f.0 f.1 d),
           ),
     )
 

@@ -16,19 +16,19 @@ use Rattle.syntax.proofs.terms.+apply_arrow_atom_block_bound_exact_function_func
 
 -- exact
 
-pub exact-returns-in-err-read : goal.exact-returns-in-err-read
-exact-returns-in-err-read t c =
-    fails _ _ _ _ _ _ _ _ _ c.from-residual.result c.from-residual.ensures.0 (λ n h. then_not _ _ (term_at n _ ∙ c.in-err-read.ensures n h))
+pub exact-returns-in_err-read : goal.exact-returns-in_err-read
+exact-returns-in_err-read t c =
+    fails _ _ _ _ _ _ _ _ _ c.from_residual.result c.from_residual.ensures.0 (λ n h. then_not _ _ (term_at n _ ∙ c.in_err-read.ensures n h))
 
-pub exact-returns-in-err-rest : goal.exact-returns-in-err-rest
-exact-returns-in-err-rest t c =
-    fails _ _ _ _ _ _ _ _ _ c.from-residual-in-err-rest.result c.from-residual-in-err-rest.ensures.0
-    (λ n h. then_is _ _ (term_at n _ ∙ c.in-ok-read.ensures.reads n h) (bind_not _ _ c.in-err-rest.ensures))
+pub exact-returns-in_err-rest : goal.exact-returns-in_err-rest
+exact-returns-in_err-rest t c =
+    fails _ _ _ _ _ _ _ _ _ c.from_residual-in_err-rest.result c.from_residual-in_err-rest.ensures.0
+    (λ n h. then_is _ _ (term_at n _ ∙ c.in_ok-read.ensures.reads n h) (bind_not _ _ c.in_err-rest.ensures))
 
 pub exact-returns : goal.exact-returns
 exact-returns t c =
-    let d = c.in-ok-read.ensures in
-    let e = c.in-ok-rest.ensures in
+    let d = c.in_ok-read.ensures in
+    let e = c.in_ok-rest.ensures in
     record {
       value = d.value;
       reads = λ n h. then_is _ _ (term_at n _ ∙ d.reads n h) (bind_is _ _ e.0 refl);
@@ -40,26 +40,26 @@ exact-returns t c =
 
 -- bound
 
-pub bound-returns-in-err-read : goal.bound-returns-in-err-read
-bound-returns-in-err-read t c =
-    fails _ _ _ _ _ _ _ _ _ c.from-residual.result c.from-residual.ensures.0 (λ n h. then_not _ _ (term_at n _ ∙ c.in-err-read.ensures n h))
+pub bound-returns-in_err-read : goal.bound-returns-in_err-read
+bound-returns-in_err-read t c =
+    fails _ _ _ _ _ _ _ _ _ c.from_residual.result c.from_residual.ensures.0 (λ n h. then_not _ _ (term_at n _ ∙ c.in_err-read.ensures n h))
 
-pub bound-returns-in-err-rest : goal.bound-returns-in-err-rest
-bound-returns-in-err-rest t c =
-    fails _ _ _ _ _ _ _ _ _ c.from-residual-in-err-rest.result c.from-residual-in-err-rest.ensures.0
-    (λ n h. then_is _ _ (term_at n _ ∙ c.in-ok-read.ensures.reads n h) (bind_not _ _ c.in-err-rest.ensures))
+pub bound-returns-in_err-rest : goal.bound-returns-in_err-rest
+bound-returns-in_err-rest t c =
+    fails _ _ _ _ _ _ _ _ _ c.from_residual-in_err-rest.result c.from_residual-in_err-rest.ensures.0
+    (λ n h. then_is _ _ (term_at n _ ∙ c.in_ok-read.ensures.reads n h) (bind_not _ _ c.in_err-rest.ensures))
 
 pub bound-returns : goal.bound-returns
 bound-returns t c =
-    let d = c.in-ok-read.ensures in
-    let e = c.in-ok-rest.ensures in
+    let d = c.in_ok-read.ensures in
+    let e = c.in_ok-rest.ensures in
     record {
       value = d.value;
       reads = λ n h. then_is _ _ (term_at n _ ∙ d.reads n h) (bind_is _ _ e.0 refl);
-      wrote = append_then _ _ _ _ _ _ _ _ c.push-named-at.ensures d.wrote;
+      wrote = append_then _ _ _ _ _ _ _ _ c.push_named-at.ensures d.wrote;
       stage = d.stage;
       fewer = omega (arith, d.fewer, e.1.fewer);
-      room = omega (arith, d.room, e.1.shorter, c.push-named-at.ensures.ends, c.requires.some);
+      room = omega (arith, d.room, e.1.shorter, c.push_named-at.ensures.ends, c.requires.some);
     }
 
 -- function and function_type
@@ -67,8 +67,8 @@ bound-returns t c =
 pub function-returns : goal.function-returns
 function-returns t c =
     let b = c.in-Some.ensures in
-    let d = c.in-ok-read.ensures in
-    let e = c.in-ok-rest.ensures in
+    let d = c.in_ok-read.ensures in
+    let e = c.in_ok-rest.ensures in
     let x = c.in-Some.word.name.now in
     record {
       frame = f_lam x d.value;
@@ -79,10 +79,10 @@ function-returns t c =
       room = omega (arith, d.room, e.1.shorter, b.shorter);
     }
 
-pub function-type-returns : goal.function-type-returns
-function-type-returns t c =
-    let d = c.in-ok-read.ensures in
-    let e = c.in-ok-rest.ensures in
+pub function_type-returns : goal.function_type-returns
+function_type-returns t c =
+    let d = c.in_ok-read.ensures in
+    let e = c.in_ok-rest.ensures in
     let x = c.args.word.name.now in
     record {
       frame = f_pi x d.value;
@@ -95,17 +95,17 @@ function-type-returns t c =
 
 -- arrow
 
-pub arrow-returns-in-err-read : goal.arrow-returns-in-err-read
-arrow-returns-in-err-read t c =
-    links_fail read_arrow term_reader c.args.bytes.now c.args.out.now c.args.len c.uses.new.out c.from-residual.result c.from-residual.ensures.0
-    (lower-none read_arrow (tokens c.args.bytes.now) (λ m h. arrow_none (readers m) (tokens c.args.bytes.now) (c.in-err-read.ensures (suc m) (omega (arith, h)))))
+pub arrow-returns-in_err-read : goal.arrow-returns-in_err-read
+arrow-returns-in_err-read t c =
+    links_fail read_arrow term_reader c.args.bytes.now c.args.out.now c.args.len c.uses.new.out c.from_residual.result c.from_residual.ensures.0
+    (lower-none read_arrow (tokens c.args.bytes.now) (λ m h. arrow_none (readers m) (tokens c.args.bytes.now) (c.in_err-read.ensures (suc m) (omega (arith, h)))))
 
-pub arrow-returns-in-default : goal.arrow-returns-in-default
-arrow-returns-in-default t c =
-    let d = c.in-ok-read.ensures in
+pub arrow-returns-in_default : goal.arrow-returns-in_default
+arrow-returns-in_default t c =
+    let d = c.in_ok-read.ensures in
     record {
       value = d.value;
-      reads = lower-some read_arrow (tokens c.args.bytes.now) _ (λ m h. arrow_alone (readers m) (tokens c.args.bytes.now) (tokens c.in-ok-read.read.rest.now) d.value (d.reads (suc m) (omega (arith, h))) c.in-default.ensures);
+      reads = lower-some read_arrow (tokens c.args.bytes.now) _ (λ m h. arrow_alone (readers m) (tokens c.args.bytes.now) (tokens c.in_ok-read.read.rest.now) d.value (d.reads (suc m) (omega (arith, h))) c.in_default.ensures);
       wrote = d.wrote;
       stage = d.stage;
       fewer = d.fewer;
@@ -114,13 +114,13 @@ arrow-returns-in-default t c =
 
 pub arrow-insert-end-requires-2 : goal.arrow-insert-end-requires-2
 arrow-insert-end-requires-2 t c =
-    let d = c.in-ok-read.ensures in
+    let d = c.in_ok-read.ensures in
     let w = append_before _ _ _ _ _ _ _ (0 ∷ []) (omega arith) d.wrote c.insert-end.ensures in
     record { order = omega (arith, w.ends); room = omega (arith, w.ends, d.wrote.ends, d.room, c.in-Some.ensures.1.shorter, c.insert-end.auto.out, c.uses.auto.out, c.requires) }
 
 pub arrow-returns : goal.arrow-returns
 arrow-returns t c =
-    let d = c.in-ok-read.ensures in
+    let d = c.in_ok-read.ensures in
     let e = c.in-Some.ensures in
     let w = append_before _ _ _ _ _ _ _ (5 ∷ []) (omega arith) (append_before _ _ _ _ _ _ _ (0 ∷ []) (omega arith) d.wrote c.insert-end.ensures) c.insert-end-2.ensures in
     record {
@@ -134,56 +134,56 @@ arrow-returns t c =
 
 -- uses
 
-pub uses-returns-in-err-first : goal.uses-returns-in-err-first
-uses-returns-in-err-first t c =
-    fails _ _ _ _ _ _ _ _ _ c.from-residual.result c.from-residual.ensures.0
-    (lower-none read_uses (tokens c.args.bytes.now) (λ m h. then_not _ _ (c.in-err-first.ensures (suc m) (omega (arith, h)))))
+pub uses-returns-in_err-first : goal.uses-returns-in_err-first
+uses-returns-in_err-first t c =
+    fails _ _ _ _ _ _ _ _ _ c.from_residual.result c.from_residual.ensures.0
+    (lower-none read_uses (tokens c.args.bytes.now) (λ m h. then_not _ _ (c.in_err-first.ensures (suc m) (omega (arith, h)))))
 
 pub uses-loop-out-init : goal.uses-loop-out-init
 uses-loop-out-init t c = row_start (λ n. (readers n).row) _ _ _ _
 
-pub uses-returns-in-err-next : goal.uses-returns-in-err-next
-uses-returns-in-err-next t c =
-    let d = c.in-ok-first.ensures in
-    fails _ _ _ _ _ _ _ _ _ c.from-residual-in-err-next.result c.from-residual-in-err-next.ensures.0
+pub uses-returns-in_err-next : goal.uses-returns-in_err-next
+uses-returns-in_err-next t c =
+    let d = c.in_ok-first.ensures in
+    fails _ _ _ _ _ _ _ _ _ c.from_residual-in_err-next.result c.from_residual-in_err-next.ensures.0
     (lower-none read_uses (tokens c.args.bytes.now) (λ n l. then_is _ _ (d.reads (suc n) (omega (arith, l)))
     (row_none (λ n. (readers n).row) _ _ _ _ _ _ _ _ _ c.loop-out.invariant
-    (λ h m k. cond-true _ _ _ (sym c.loop-out-test.ensures) ∙ then_not _ _ (c.in-err-next.ensures (suc m) (omega (arith, k)))) d.value n (omega (arith, l, d.fewer)))))
+    (λ h m k. cond-true _ _ _ (sym c.loop-out-test.ensures) ∙ then_not _ _ (c.in_err-next.ensures (suc m) (omega (arith, k)))) d.value n (omega (arith, l, d.fewer)))))
 
 pub uses-loop-out-preserved : goal.uses-loop-out-preserved
 uses-loop-out-preserved t c =
-    let d = c.in-ok-next.ensures in
+    let d = c.in_ok-next.ensures in
     row_more (λ n. (readers n).row) _ _ _ _ _ _ _ _ _ _ _ _ _ _ d.value c.loop-out.invariant
     (λ h m k. cond-true _ _ _ (sym c.loop-out-test.ensures) ∙ then_is _ _ (d.reads (suc m) (omega (arith, k))) refl)
     d.wrote d.stage c.max-stage.ensures d.fewer d.room
 
 pub uses-returns : goal.uses-returns
 uses-returns t c =
-    let d = c.in-ok-first.ensures in
-    row_end (λ n. (readers n).row) (lower read_atom) (lower read_uses) _ _ _ _ _ c.in-ok-first.first _ _ _ _ _ _ _ (omega arith) d c.loop-out.invariant refl refl
+    let d = c.in_ok-first.ensures in
+    row_end (λ n. (readers n).row) (lower read_atom) (lower read_uses) _ _ _ _ _ c.in_ok-first.first _ _ _ _ _ _ _ (omega arith) d c.loop-out.invariant refl refl
     (lower_link read_uses (λ n. (readers n).row) _ _ d.value (λ m h. then_is _ _ (d.reads (suc m) (omega (arith, h))) refl) d.fewer)
     (λ h m. cond-false _ _ _ (sym c.loop-out-test.ensures)) c.insert-end.ensures
 
 -- atom
 
-pub atom-returns-in-err-read : goal.atom-returns-in-err-read
-atom-returns-in-err-read t c =
+pub atom-returns-in_err-read : goal.atom-returns-in_err-read
+atom-returns-in_err-read t c =
     let e = c.in-Some.ensures in
-    fails _ _ _ _ _ _ _ _ _ c.from-residual.result c.from-residual.ensures.0
-    (lower-none read_atom _ (λ m h. option_is _ _ _ e.0 (then_not _ _ (term_at m _ ∙ c.in-err-read.ensures m (omega (arith, e.1.fewer))))))
+    fails _ _ _ _ _ _ _ _ _ c.from_residual.result c.from_residual.ensures.0
+    (lower-none read_atom _ (λ m h. option_is _ _ _ e.0 (then_not _ _ (term_at m _ ∙ c.in_err-read.ensures m (omega (arith, e.1.fewer))))))
 
-pub atom-returns-in-err-rest : goal.atom-returns-in-err-rest
-atom-returns-in-err-rest t c =
+pub atom-returns-in_err-rest : goal.atom-returns-in_err-rest
+atom-returns-in_err-rest t c =
     let e = c.in-Some.ensures in
-    let d = c.in-ok-read.ensures in
-    fails _ _ _ _ _ _ _ _ _ c.from-residual-in-err-rest.result c.from-residual-in-err-rest.ensures.0
-    (lower-none read_atom _ (λ m h. option_is _ _ _ e.0 (then_is _ _ (term_at m _ ∙ d.reads m (omega (arith, e.1.fewer))) (bind_not _ _ c.in-err-rest.ensures))))
+    let d = c.in_ok-read.ensures in
+    fails _ _ _ _ _ _ _ _ _ c.from_residual-in_err-rest.result c.from_residual-in_err-rest.ensures.0
+    (lower-none read_atom _ (λ m h. option_is _ _ _ e.0 (then_is _ _ (term_at m _ ∙ d.reads m (omega (arith, e.1.fewer))) (bind_not _ _ c.in_err-rest.ensures))))
 
 pub atom-returns-in-Some : goal.atom-returns-in-Some
 atom-returns-in-Some t c =
     let e = c.in-Some.ensures in
-    let d = c.in-ok-read.ensures in
-    let f = c.in-ok-rest.ensures in
+    let d = c.in_ok-read.ensures in
+    let f = c.in_ok-rest.ensures in
     record {
       value = d.value;
       reads = lower-some read_atom _ _ (λ m h. option_is _ _ _ e.0 (then_is _ _ (term_at m _ ∙ d.reads m (omega (arith, e.1.fewer))) (bind_is _ _ f.0 refl)));
@@ -193,17 +193,17 @@ atom-returns-in-Some t c =
       room = omega (arith, e.1.shorter, d.room, f.1.shorter);
     }
 
-pub atom-returns-in-err-read-3 : goal.atom-returns-in-err-read-3
-atom-returns-in-err-read-3 t c =
-    fails _ _ _ _ _ _ _ _ _ c.from-residual-in-err-read-3.result c.from-residual-in-err-read-3.ensures.0
-    (lower-none read_atom (tokens c.args.bytes.now) (λ m h. atom_leaf (readers m) (tokens c.args.bytes.now) c.in-default.ensures c.in-default-eat.ensures ∙ c.in-err-read-3.ensures (suc m) (omega (arith, h))))
+pub atom-returns-in_err-read-3 : goal.atom-returns-in_err-read-3
+atom-returns-in_err-read-3 t c =
+    fails _ _ _ _ _ _ _ _ _ c.from_residual-in_err-read-3.result c.from_residual-in_err-read-3.ensures.0
+    (lower-none read_atom (tokens c.args.bytes.now) (λ m h. atom_leaf (readers m) (tokens c.args.bytes.now) c.in_default.ensures c.in_default-eat.ensures ∙ c.in_err-read-3.ensures (suc m) (omega (arith, h))))
 
 pub atom-returns : goal.atom-returns
 atom-returns t c =
-    let d = c.in-ok-read-3.ensures in
+    let d = c.in_ok-read-3.ensures in
     record {
       value = d.value;
-      reads = lower-some read_atom (tokens c.args.bytes.now) _ (λ m h. atom_leaf (readers m) (tokens c.args.bytes.now) c.in-default.ensures c.in-default-eat.ensures ∙ d.reads (suc m) (omega (arith, h)));
+      reads = lower-some read_atom (tokens c.args.bytes.now) _ (λ m h. atom_leaf (readers m) (tokens c.args.bytes.now) c.in_default.ensures c.in_default-eat.ensures ∙ d.reads (suc m) (omega (arith, h)));
       wrote = d.wrote;
       stage = d.stage;
       fewer = d.fewer;
@@ -212,24 +212,24 @@ atom-returns t c =
 
 -- block
 
-pub block-returns-in-err-read : goal.block-returns-in-err-read
-block-returns-in-err-read t c =
-    let e = c.in-ok-rest.ensures in
-    fails _ _ _ _ _ _ _ _ _ c.from-residual-in-err-read.result c.from-residual-in-err-read.ensures.0
-    (λ n h. bind_is _ _ e.0 (then_not _ _ (script_at n _ ∙ c.in-err-read.ensures n (omega (arith, e.1.fewer)))))
+pub block-returns-in_err-read : goal.block-returns-in_err-read
+block-returns-in_err-read t c =
+    let e = c.in_ok-rest.ensures in
+    fails _ _ _ _ _ _ _ _ _ c.from_residual-in_err-read.result c.from_residual-in_err-read.ensures.0
+    (λ n h. bind_is _ _ e.0 (then_not _ _ (script_at n _ ∙ c.in_err-read.ensures n (omega (arith, e.1.fewer)))))
 
-pub block-returns-in-err-rest-2 : goal.block-returns-in-err-rest-2
-block-returns-in-err-rest-2 t c =
-    let e = c.in-ok-rest.ensures in
-    let d = c.in-ok-read.ensures in
-    fails _ _ _ _ _ _ _ _ _ c.from-residual-in-err-rest-2.result c.from-residual-in-err-rest-2.ensures.0
-    (λ n h. bind_is _ _ e.0 (then_is _ _ (script_at n _ ∙ d.reads n (omega (arith, e.1.fewer))) (bind_not _ _ c.in-err-rest-2.ensures)))
+pub block-returns-in_err-rest-2 : goal.block-returns-in_err-rest-2
+block-returns-in_err-rest-2 t c =
+    let e = c.in_ok-rest.ensures in
+    let d = c.in_ok-read.ensures in
+    fails _ _ _ _ _ _ _ _ _ c.from_residual-in_err-rest-2.result c.from_residual-in_err-rest-2.ensures.0
+    (λ n h. bind_is _ _ e.0 (then_is _ _ (script_at n _ ∙ d.reads n (omega (arith, e.1.fewer))) (bind_not _ _ c.in_err-rest-2.ensures)))
 
 pub block-returns : goal.block-returns
 block-returns t c =
-    let e = c.in-ok-rest.ensures in
-    let d = c.in-ok-read.ensures in
-    let f = c.in-ok-rest-2.ensures in
+    let e = c.in_ok-rest.ensures in
+    let d = c.in_ok-read.ensures in
+    let f = c.in_ok-rest-2.ensures in
     record {
       value = e_by d.value;
       reads = λ n h. bind_is _ _ e.0 (then_is _ _ (script_at n _ ∙ d.reads n (omega (arith, e.1.fewer))) (bind_is _ _ f.0 refl));
@@ -244,109 +244,109 @@ block-returns t c =
 pub term-loop-link-init : goal.term-loop-link-init
 term-loop-link-init t c = chain_start term_reader _ _ _
 
-pub term-returns-in-err-link : goal.term-returns-in-err-link
-term-returns-in-err-link t c =
-    fails _ _ _ _ _ _ _ _ _ c.from-residual.result c.from-residual.ensures.0
-    (chain_none term_reader read_term (λ ts. refl) (λ n ts. refl) _ _ _ _ _ _ _ c.loop-link.invariant c.in-err-link.ensures)
+pub term-returns-in_err-link : goal.term-returns-in_err-link
+term-returns-in_err-link t c =
+    fails _ _ _ _ _ _ _ _ _ c.from_residual.result c.from_residual.ensures.0
+    (chain_none term_reader read_term (λ ts. refl) (λ n ts. refl) _ _ _ _ _ _ _ c.loop-link.invariant c.in_err-link.ensures)
 
 pub term-loop-link-preserved : goal.term-loop-link-preserved
 term-loop-link-preserved t c =
     let bs = c.loop-link.rest.now in
     chain_more term_reader read_term (λ ts. refl) (λ n ts. refl) c.args.bytes.now c.args.out.now c.args.len c.loop-link.out c.term-link.new.out bs c.loop-link.end c.loop-link.stage c.max-stage.result c.in-More.read
-    c.max-stage.ensures c.loop-link.invariant (links_more read_term term_reader bs c.loop-link.out c.loop-link.end c.term-link.new.out c.in-ok-link.link c.in-More.read c.in-More.is c.in-ok-link.ensures)
+    c.max-stage.ensures c.loop-link.invariant (links_more read_term term_reader bs c.loop-link.out c.loop-link.end c.term-link.new.out c.in_ok-link.link c.in-More.read c.in-More.is c.in_ok-link.ensures)
 
 pub term-returns-in-Last : goal.term-returns-in-Last
 term-returns-in-Last t c =
     let bs = c.loop-link.rest.now in
     chain_last term_reader read_term (λ ts. refl) (λ n ts. refl) c.args.bytes.now c.args.out.now c.args.len c.loop-link.out c.term-link.new.out bs c.loop-link.end c.loop-link.stage c.in-Last.read _ refl refl
-    c.max.ensures c.loop-link.invariant (links_last read_term term_reader bs c.loop-link.out c.loop-link.end c.term-link.new.out c.in-ok-link.link c.in-Last.read c.in-Last.is c.in-ok-link.ensures)
+    c.max.ensures c.loop-link.invariant (links_last read_term term_reader bs c.loop-link.out c.loop-link.end c.term-link.new.out c.in_ok-link.link c.in-Last.read c.in-Last.is c.in_ok-link.ensures)
 
 pub script-loop-link-init : goal.script-loop-link-init
 script-loop-link-init t c = chain_start script_reader _ _ _
 
-pub script-returns-in-err-link : goal.script-returns-in-err-link
-script-returns-in-err-link t c =
-    fails _ _ _ _ _ _ _ _ _ c.from-residual.result c.from-residual.ensures.0
-    (chain_none script_reader read_script (λ ts. refl) (λ n ts. refl) _ _ _ _ _ _ _ c.loop-link.invariant c.in-err-link.ensures)
+pub script-returns-in_err-link : goal.script-returns-in_err-link
+script-returns-in_err-link t c =
+    fails _ _ _ _ _ _ _ _ _ c.from_residual.result c.from_residual.ensures.0
+    (chain_none script_reader read_script (λ ts. refl) (λ n ts. refl) _ _ _ _ _ _ _ c.loop-link.invariant c.in_err-link.ensures)
 
 pub script-loop-link-preserved : goal.script-loop-link-preserved
 script-loop-link-preserved t c =
     let bs = c.loop-link.rest.now in
     chain_more script_reader read_script (λ ts. refl) (λ n ts. refl) c.args.bytes.now c.args.out.now c.args.len c.loop-link.out c.script-link.new.out bs c.loop-link.end c.loop-link.stage c.max-stage.result c.in-More.read
-    c.max-stage.ensures c.loop-link.invariant (links_more read_script script_reader bs c.loop-link.out c.loop-link.end c.script-link.new.out c.in-ok-link.link c.in-More.read c.in-More.is c.in-ok-link.ensures)
+    c.max-stage.ensures c.loop-link.invariant (links_more read_script script_reader bs c.loop-link.out c.loop-link.end c.script-link.new.out c.in_ok-link.link c.in-More.read c.in-More.is c.in_ok-link.ensures)
 
 pub script-returns-in-Last : goal.script-returns-in-Last
 script-returns-in-Last t c =
     let bs = c.loop-link.rest.now in
     chain_last script_reader read_script (λ ts. refl) (λ n ts. refl) c.args.bytes.now c.args.out.now c.args.len c.loop-link.out c.script-link.new.out bs c.loop-link.end c.loop-link.stage c.in-Last.read _ refl refl
-    c.max.ensures c.loop-link.invariant (links_last read_script script_reader bs c.loop-link.out c.loop-link.end c.script-link.new.out c.in-ok-link.link c.in-Last.read c.in-Last.is c.in-ok-link.ensures)
+    c.max.ensures c.loop-link.invariant (links_last read_script script_reader bs c.loop-link.out c.loop-link.end c.script-link.new.out c.in_ok-link.link c.in-Last.read c.in-Last.is c.in_ok-link.ensures)
 
 -- term_link
 
-pub term-link-returns-in-err-link : goal.term-link-returns-in-err-link
-term-link-returns-in-err-link t c =
-    links_fail read_term term_reader c.args.bytes.now c.args.out.now c.args.len c.arrow.new.out c.from-residual-in-err-link.result c.from-residual-in-err-link.ensures.0
-    (none_as read_arrow read_term (tokens c.args.bytes.now) (λ r. term_arrow r (tokens c.args.bytes.now) c.in-default.ensures c.in-default-read-binder.ensures) c.in-err-link.ensures)
+pub term_link-returns-in_err-link : goal.term_link-returns-in_err-link
+term_link-returns-in_err-link t c =
+    links_fail read_term term_reader c.args.bytes.now c.args.out.now c.args.len c.arrow.new.out c.from_residual-in_err-link.result c.from_residual-in_err-link.ensures.0
+    (none_as read_arrow read_term (tokens c.args.bytes.now) (λ r. term_arrow r (tokens c.args.bytes.now) c.in_default.ensures c.in_default-read_binder.ensures) c.in_err-link.ensures)
 
-pub term-link-returns : goal.term-link-returns
-term-link-returns t c =
-    links_as read_arrow read_term term_reader c.args.bytes.now _ _ _ c.in-ok-link.link (λ r. term_arrow r (tokens c.args.bytes.now) c.in-default.ensures c.in-default-read-binder.ensures) c.in-ok-link.ensures
+pub term_link-returns : goal.term_link-returns
+term_link-returns t c =
+    links_as read_arrow read_term term_reader c.args.bytes.now _ _ _ c.in_ok-link.link (λ r. term_arrow r (tokens c.args.bytes.now) c.in_default.ensures c.in_default-read_binder.ensures) c.in_ok-link.ensures
 
 -- have
 
-pub have-returns-in-err-typed : goal.have-returns-in-err-typed
-have-returns-in-err-typed t c =
-    let w = c.in-ok-word.ensures in
-    let e = c.in-ok-rest.ensures in
-    opens_fail _ _ _ _ _ _ _ c.from-residual-in-err-typed.result c.from-residual-in-err-typed.ensures.0
-    (λ n h. then_is _ _ w.reads (bind_is _ _ e.0 (then_not _ _ (term_at n _ ∙ c.in-err-typed.ensures n (omega (arith, w.fewer, e.1.fewer))))))
+pub have-returns-in_err-typed : goal.have-returns-in_err-typed
+have-returns-in_err-typed t c =
+    let w = c.in_ok-word.ensures in
+    let e = c.in_ok-rest.ensures in
+    opens_fail _ _ _ _ _ _ _ c.from_residual-in_err-typed.result c.from_residual-in_err-typed.ensures.0
+    (λ n h. then_is _ _ w.reads (bind_is _ _ e.0 (then_not _ _ (term_at n _ ∙ c.in_err-typed.ensures n (omega (arith, w.fewer, e.1.fewer))))))
 
-pub have-returns-in-err-rest-2 : goal.have-returns-in-err-rest-2
-have-returns-in-err-rest-2 t c =
-    let w = c.in-ok-word.ensures in
-    let e = c.in-ok-rest.ensures in
-    let d = c.in-ok-typed.ensures in
-    opens_fail _ _ _ _ _ _ _ c.from-residual-in-err-rest-2.result c.from-residual-in-err-rest-2.ensures.0
-    (λ n h. then_is _ _ w.reads (bind_is _ _ e.0 (then_is _ _ (term_at n _ ∙ d.reads n (omega (arith, w.fewer, e.1.fewer))) (bind_not _ _ c.in-err-rest-2.ensures))))
+pub have-returns-in_err-rest-2 : goal.have-returns-in_err-rest-2
+have-returns-in_err-rest-2 t c =
+    let w = c.in_ok-word.ensures in
+    let e = c.in_ok-rest.ensures in
+    let d = c.in_ok-typed.ensures in
+    opens_fail _ _ _ _ _ _ _ c.from_residual-in_err-rest-2.result c.from_residual-in_err-rest-2.ensures.0
+    (λ n h. then_is _ _ w.reads (bind_is _ _ e.0 (then_is _ _ (term_at n _ ∙ d.reads n (omega (arith, w.fewer, e.1.fewer))) (bind_not _ _ c.in_err-rest-2.ensures))))
 
-pub have-returns-in-err-read : goal.have-returns-in-err-read
-have-returns-in-err-read t c =
-    let w = c.in-ok-word.ensures in
-    let e = c.in-ok-rest.ensures in
-    let d = c.in-ok-typed.ensures in
-    let f = c.in-ok-rest-2.ensures in
-    opens_fail _ _ _ _ _ _ _ c.from-residual-in-err-read.result c.from-residual-in-err-read.ensures.0
+pub have-returns-in_err-read : goal.have-returns-in_err-read
+have-returns-in_err-read t c =
+    let w = c.in_ok-word.ensures in
+    let e = c.in_ok-rest.ensures in
+    let d = c.in_ok-typed.ensures in
+    let f = c.in_ok-rest-2.ensures in
+    opens_fail _ _ _ _ _ _ _ c.from_residual-in_err-read.result c.from_residual-in_err-read.ensures.0
     (λ n h. then_is _ _ w.reads (bind_is _ _ e.0 (then_is _ _ (term_at n _ ∙ d.reads n (omega (arith, w.fewer, e.1.fewer))) (bind_is _ _ f.0
-    (then_not _ _ (script_at n _ ∙ c.in-err-read.ensures n (omega (arith, w.fewer, e.1.fewer, d.fewer, f.1.fewer))))))))
+    (then_not _ _ (script_at n _ ∙ c.in_err-read.ensures n (omega (arith, w.fewer, e.1.fewer, d.fewer, f.1.fewer))))))))
 
-pub have-returns-in-err-rest-3 : goal.have-returns-in-err-rest-3
-have-returns-in-err-rest-3 t c =
-    let w = c.in-ok-word.ensures in
-    let e = c.in-ok-rest.ensures in
-    let d = c.in-ok-typed.ensures in
-    let f = c.in-ok-rest-2.ensures in
-    let g = c.in-ok-read.ensures in
-    opens_fail _ _ _ _ _ _ _ c.from-residual-in-err-rest-3.result c.from-residual-in-err-rest-3.ensures.0
+pub have-returns-in_err-rest-3 : goal.have-returns-in_err-rest-3
+have-returns-in_err-rest-3 t c =
+    let w = c.in_ok-word.ensures in
+    let e = c.in_ok-rest.ensures in
+    let d = c.in_ok-typed.ensures in
+    let f = c.in_ok-rest-2.ensures in
+    let g = c.in_ok-read.ensures in
+    opens_fail _ _ _ _ _ _ _ c.from_residual-in_err-rest-3.result c.from_residual-in_err-rest-3.ensures.0
     (λ n h. then_is _ _ w.reads (bind_is _ _ e.0 (then_is _ _ (term_at n _ ∙ d.reads n (omega (arith, w.fewer, e.1.fewer))) (bind_is _ _ f.0
-    (then_is _ _ (script_at n _ ∙ g.reads n (omega (arith, w.fewer, e.1.fewer, d.fewer, f.1.fewer))) (bind_not _ _ c.in-err-rest-3.ensures))))))
+    (then_is _ _ (script_at n _ ∙ g.reads n (omega (arith, w.fewer, e.1.fewer, d.fewer, f.1.fewer))) (bind_not _ _ c.in_err-rest-3.ensures))))))
 
 pub have-returns : goal.have-returns
 have-returns t c =
-    let w = c.in-ok-word.ensures in
-    let e = c.in-ok-rest.ensures in
-    let d = c.in-ok-typed.ensures in
-    let f = c.in-ok-rest-2.ensures in
-    let g = c.in-ok-read.ensures in
-    let k = c.in-ok-rest-3.ensures in
-    let x = c.in-ok-word.word.name.now in
+    let w = c.in_ok-word.ensures in
+    let e = c.in_ok-rest.ensures in
+    let d = c.in_ok-typed.ensures in
+    let f = c.in_ok-rest-2.ensures in
+    let g = c.in_ok-read.ensures in
+    let k = c.in_ok-rest-3.ensures in
+    let x = c.in_ok-word.word.name.now in
     record {
       frame = f_have x d.value g.value;
       opens = λ n h. then_is _ _ w.reads (bind_is _ _ e.0 (then_is _ _ (term_at n _ ∙ d.reads n (omega (arith, w.fewer, e.1.fewer))) (bind_is _ _ f.0
           (then_is _ _ (script_at n _ ∙ g.reads n (omega (arith, w.fewer, e.1.fewer, d.fewer, f.1.fewer))) (bind_is _ _ k.0 (wrap-then (f_have x d.value g.value) _))))));
-      wrote = append_as _ _ _ _ _ _ (ap (λ (z : List ℕ). 10 ∷ length x ∷ z) (append_assoc x _ _ ∙ ap (λ (z : List ℕ). x ++ z) (sym (expr_then d.value _)))) (append_then _ _ _ _ _ _ _ _ (append_then _ _ _ _ _ _ _ _ c.push-named-at.ensures d.wrote) g.wrote);
+      wrote = append_as _ _ _ _ _ _ (ap (λ (z : List ℕ). 10 ∷ length x ∷ z) (append_assoc x _ _ ∙ ap (λ (z : List ℕ). x ++ z) (sym (expr_then d.value _)))) (append_then _ _ _ _ _ _ _ _ (append_then _ _ _ _ _ _ _ _ c.push_named-at.ensures d.wrote) g.wrote);
       stage = c.max.ensures ∙ ap₂ max d.stage g.stage;
       fewer = omega (arith, w.fewer, e.1.fewer, d.fewer, f.1.fewer, g.fewer, k.1.fewer);
-      room = omega (arith, w.shorter, w.some-bytes, e.1.shorter, d.room, f.1.shorter, g.room, k.1.shorter, c.push-named-at.ensures.ends);
+      room = omega (arith, w.shorter, w.some-bytes, e.1.shorter, d.room, f.1.shorter, g.room, k.1.shorter, c.push_named-at.ensures.ends);
     }
 
 -- apply
@@ -354,35 +354,35 @@ have-returns t c =
 pub apply-loop-inner-init : goal.apply-loop-inner-init
 apply-loop-inner-init t c = row_start (λ n. (readers n).args) _ _ _ _
 
-pub apply-returns-in-err-read : goal.apply-returns-in-err-read
-apply-returns-in-err-read t c =
-    let d = c.in-ok-first.ensures in
+pub apply-returns-in_err-read : goal.apply-returns-in_err-read
+apply-returns-in_err-read t c =
+    let d = c.in_ok-first.ensures in
     let e = c.in-Some.ensures in
-    fails _ _ _ _ _ _ _ _ _ c.from-residual-in-err-read.result c.from-residual-in-err-read.ensures.0
+    fails _ _ _ _ _ _ _ _ _ c.from_residual-in_err-read.result c.from_residual-in_err-read.ensures.0
     (λ n l. apply_args (readers n) (tokens c.args.bytes.now) _ _ (d.reads n l) ∙ row_none (λ n. (readers n).args) _ _ _ _ _ _ _ _ _ c.loop-inner.invariant
-    (λ h m k. option_is _ _ _ e.0 (then_not _ _ (script_at m _ ∙ c.in-err-read.ensures m (omega (arith, k, e.1.fewer))))) d.value n (omega (arith, l, d.fewer)))
+    (λ h m k. option_is _ _ _ e.0 (then_not _ _ (script_at m _ ∙ c.in_err-read.ensures m (omega (arith, k, e.1.fewer))))) d.value n (omega (arith, l, d.fewer)))
 
-pub apply-returns-in-err-behind : goal.apply-returns-in-err-behind
-apply-returns-in-err-behind t c =
-    let d = c.in-ok-first.ensures in
+pub apply-returns-in_err-behind : goal.apply-returns-in_err-behind
+apply-returns-in_err-behind t c =
+    let d = c.in_ok-first.ensures in
     let e = c.in-Some.ensures in
-    let g = c.in-ok-read.ensures in
-    fails _ _ _ _ _ _ _ _ _ c.from-residual-in-err-behind.result c.from-residual-in-err-behind.ensures.0
+    let g = c.in_ok-read.ensures in
+    fails _ _ _ _ _ _ _ _ _ c.from_residual-in_err-behind.result c.from_residual-in_err-behind.ensures.0
     (λ n l. apply_args (readers n) (tokens c.args.bytes.now) _ _ (d.reads n l) ∙ row_none (λ n. (readers n).args) _ _ _ _ _ _ _ _ _ c.loop-inner.invariant
-    (λ h m k. option_is _ _ _ e.0 (then_is _ _ (script_at m _ ∙ g.reads m (omega (arith, k, e.1.fewer))) (bind_not _ _ c.in-err-behind.ensures))) d.value n (omega (arith, l, d.fewer)))
+    (λ h m k. option_is _ _ _ e.0 (then_is _ _ (script_at m _ ∙ g.reads m (omega (arith, k, e.1.fewer))) (bind_not _ _ c.in_err-behind.ensures))) d.value n (omega (arith, l, d.fewer)))
 
 pub apply-loop-inner-preserved : goal.apply-loop-inner-preserved
 apply-loop-inner-preserved t c =
     let e = c.in-Some.ensures in
-    let g = c.in-ok-read.ensures in
-    let b = c.in-ok-behind.ensures in
+    let g = c.in_ok-read.ensures in
+    let b = c.in_ok-behind.ensures in
     row_more (λ n. (readers n).args) _ _ _ _ _ _ _ _ _ _ _ _ _ _ g.value c.loop-inner.invariant
     (λ h m k. option_is _ _ _ e.0 (then_is _ _ (script_at m _ ∙ g.reads m (omega (arith, k, e.1.fewer))) (bind_is _ _ b.0 refl)))
     g.wrote g.stage c.max-stage.ensures (omega (arith, e.1.fewer, g.fewer, b.1.fewer)) (omega (arith, e.1.shorter, g.room, b.1.shorter))
 
 pub apply-returns : goal.apply-returns
 apply-returns t c =
-    let d = c.in-ok-first.ensures in
-    row_end (λ n. (readers n).args) (level read_exact) (level read_apply) _ _ _ _ _ c.in-ok-first.first _ _ _ _ _ _ _ (omega arith) d c.loop-inner.invariant refl refl
+    let d = c.in_ok-first.ensures in
+    row_end (λ n. (readers n).args) (level read_exact) (level read_apply) _ _ _ _ _ c.in_ok-first.first _ _ _ _ _ _ _ (omega arith) d c.loop-inner.invariant refl refl
     (λ n h. (n, omega (arith, h, d.fewer), apply_args (readers n) (tokens c.args.bytes.now) _ _ (d.reads n h)))
-    (λ h m. option_not _ _ _ c.in-default.ensures refl) c.insert-end.ensures
+    (λ h m. option_not _ _ _ c.in_default.ensures refl) c.insert-end.ensures

@@ -26,8 +26,8 @@ decreases-exact l = 8 * length l.bytes.now + 5
 abbrev pub decreases-function : goal.decreases-function
 decreases-function l = 8 * length l.bytes.now
 
-abbrev pub decreases-function-type : goal.decreases-function-type
-decreases-function-type l = 8 * length l.word.rest.now + 6
+abbrev pub decreases-function_type : goal.decreases-function_type
+decreases-function_type l = 8 * length l.word.rest.now + 6
 
 abbrev pub decreases-have : goal.decreases-have
 decreases-have l = 8 * length l.bytes.now
@@ -35,14 +35,14 @@ decreases-have l = 8 * length l.bytes.now
 abbrev pub decreases-script : goal.decreases-script
 decreases-script l = 8 * length l.bytes.now + 4
 
-abbrev pub decreases-script-link : goal.decreases-script-link
-decreases-script-link l = 8 * length l.bytes.now + 3
+abbrev pub decreases-script_link : goal.decreases-script_link
+decreases-script_link l = 8 * length l.bytes.now + 3
 
 abbrev pub decreases-term : goal.decreases-term
 decreases-term l = 8 * length l.bytes.now + 4
 
-abbrev pub decreases-term-link : goal.decreases-term-link
-decreases-term-link l = 8 * length l.bytes.now + 3
+abbrev pub decreases-term_link : goal.decreases-term_link
+decreases-term_link l = 8 * length l.bytes.now + 3
 
 abbrev pub decreases-uses : goal.decreases-uses
 decreases-uses l = 8 * length l.bytes.now + 1

@@ -9,13 +9,13 @@ use Rattle.syntax.proofs.terms.intro.Goals as goal
 
 pub returns : goal.returns
 returns c =
-    let w = c.in-ok-word.ensures in
-    let e = c.in-ok-rest.ensures in
+    let w = c.in_ok-word.ensures in
+    let e = c.in_ok-rest.ensures in
     record {
-      frame = f_lam c.in-ok-word.word.name.now e_hole;
-      opens = λ n h. then_is _ _ w.reads (bind_is _ _ e.0 (wrap-then (f_lam c.in-ok-word.word.name.now e_hole) _));
-      wrote = append_then _ _ _ _ _ _ _ _ c.push-named-at.ensures c.push-end.ensures;
+      frame = f_lam c.in_ok-word.word.name.now e_hole;
+      opens = λ n h. then_is _ _ w.reads (bind_is _ _ e.0 (wrap-then (f_lam c.in_ok-word.word.name.now e_hole) _));
+      wrote = append_then _ _ _ _ _ _ _ _ c.push_named-at.ensures c.push-end.ensures;
       stage = refl;
       fewer = omega (arith, w.fewer, e.1.fewer);
-      room = omega (arith, c.push-named-at.ensures.ends, c.push-end.ensures.ends, w.shorter, e.1.shorter, w.some-bytes);
+      room = omega (arith, c.push_named-at.ensures.ends, c.push-end.ensures.ends, w.shorter, e.1.shorter, w.some-bytes);
     }

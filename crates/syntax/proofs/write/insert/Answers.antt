@@ -3,26 +3,26 @@ use lib.ListN.{length-replicate}
 use Rattle.syntax.proofs.Appending.{append_front}
 use Rattle.syntax.proofs.write.insert.Goals as goal
 
-pub slice-bounds-rotate-right-end : goal.slice-bounds-rotate-right-end
-slice-bounds-rotate-right-end c =
-    let h : c.push-times-end.result ≤ length c.push-times-end.new.out = omega (arith, c.push-times-end.ensures.ends, length-replicate c.args.count c.args.word, c.push-times-end.auto.out, c.requires.room) in
-    let k : c.args.start ≤ c.push-times-end.result = omega (arith, c.push-times-end.ensures.ends, c.requires.order) in
+pub slice_bounds-rotate_right-end : goal.slice_bounds-rotate_right-end
+slice_bounds-rotate_right-end c =
+    let h : c.push_times-end.result ≤ length c.push_times-end.new.out = omega (arith, c.push_times-end.ensures.ends, length-replicate c.args.count c.args.word, c.push_times-end.auto.out, c.requires.room) in
+    let k : c.args.start ≤ c.push_times-end.result = omega (arith, c.push_times-end.ensures.ends, c.requires.order) in
     search rules
 
-pub rotate-right-requires : goal.rotate-right-requires
-rotate-right-requires c =
+pub rotate_right-requires : goal.rotate_right-requires
+rotate_right-requires c =
     omega (
       arith,
-      length-take (c.push-times-end.result - c.args.start) (drop c.args.start c.push-times-end.new.out),
-      length-drop c.args.start c.push-times-end.new.out,
-      c.push-times-end.ensures.ends,
+      length-take (c.push_times-end.result - c.args.start) (drop c.args.start c.push_times-end.new.out),
+      length-drop c.args.start c.push_times-end.new.out,
+      c.push_times-end.ensures.ends,
       length-replicate c.args.count c.args.word,
-      c.push-times-end.auto.out,
+      c.push_times-end.auto.out,
       c.requires.order,
       c.requires.room,
     )
 
 pub returns : goal.returns
 returns c =
-    append_front c.args.out.now c.push-times-end.new.out c.rotate-right.new.self c.args.start c.args.len c.push-times-end.result (replicate c.args.count c.args.word) c.args.count
-    c.requires.order (omega arith) (omega (arith, c.push-times-end.ensures.ends, length-replicate c.args.count c.args.word, c.push-times-end.auto.out, c.requires.room)) (sym (length-replicate c.args.count c.args.word)) c.push-times-end.ensures c.rotate-right.ensures.after
+    append_front c.args.out.now c.push_times-end.new.out c.rotate_right.new.self c.args.start c.args.len c.push_times-end.result (replicate c.args.count c.args.word) c.args.count
+    c.requires.order (omega arith) (omega (arith, c.push_times-end.ensures.ends, length-replicate c.args.count c.args.word, c.push_times-end.auto.out, c.requires.room)) (sym (length-replicate c.args.count c.args.word)) c.push_times-end.ensures c.rotate_right.ensures.after

@@ -11,8 +11,8 @@ use Rattle.terms.proofs.subst.subst.Goals as goal
 pub nodes-init : goal.nodes-init
 nodes-init c u y a = doing_start c.args.stack.now c.requires.stands tt
 
-pub put-node-requires : goal.put-node-requires
-put-node-requires c =
+pub put_node-requires : goal.put_node-requires
+put_node-requires c =
     let s = c.nodes.invariant _ _ c.requires.argument.at in
     let h = doing_within s in let d = doing_deep s in
     record {
@@ -23,50 +23,50 @@ put-node-requires c =
 pub returns-in-NoRoom : goal.returns-in-NoRoom
 returns-in-NoRoom c t u x y a b =
     let s = c.nodes.invariant u y b in
-    let r : c.sign-at-sign.result ≡ root s.term = c.sign-at-sign.ensures _ _ (doing_at s) in
+    let r : c.sign_at-sign.result ≡ root s.term = c.sign_at-sign.ensures _ _ (doing_at s) in
     doing_no_room s (sym c.nodes.auto.out) (omega (arith, ap (λ z. length (subst_words c.nodes.depth u z)) r, c.in-NoRoom.ensures u y b)) t x a
 
 pub returns-in-NoStack : goal.returns-in-NoStack
 returns-in-NoStack c t u x y a b =
     let s = c.nodes.invariant u y b in
-    let r : c.sign-at-sign.result ≡ root s.term = c.sign-at-sign.ensures _ _ (doing_at s) in
+    let r : c.sign_at-sign.result ≡ root s.term = c.sign_at-sign.ensures _ _ (doing_at s) in
     doing_no_stack s (sym c.nodes.auto.stack) (omega (arith, ap (λ z. length (subst_words c.nodes.depth u z)) r, c.in-NoStack.ensures u y b, doing_low s, length-take (c.nodes.free - 0) c.nodes.stack)) t x a
 
-pub overflow-add-place : goal.overflow-add-place
-overflow-add-place c = let h = doing_within (c.nodes.invariant _ _ c.requires.argument.at) in search rules
+pub overflow_add-place : goal.overflow_add-place
+overflow_add-place c = let h = doing_within (c.nodes.invariant _ _ c.requires.argument.at) in search rules
 
 pub returns-then-free-lt2 : goal.returns-then-free-lt2
 returns-then-free-lt2 c t u x y a b =
     let s = c.nodes.invariant u y b in
-    let r : c.sign-at-sign.result ≡ root s.term = c.sign-at-sign.ensures _ _ (doing_at s) in
-    doing_full s (sym c.nodes.auto.stack) (ap has_parts (sym r) ∙ sym c.if-has-parts.ensures) c.if-free-lt2.true t x a
+    let r : c.sign_at-sign.result ≡ root s.term = c.sign_at-sign.ensures _ _ (doing_at s) in
+    doing_full s (sym c.nodes.auto.stack) (ap has_parts (sym r) ∙ sym c.if-has_parts.ensures) c.if-free-lt2.true t x a
 
-pub inner-depth-requires : goal.inner-depth-requires
-inner-depth-requires c =
+pub inner_depth-requires : goal.inner_depth-requires
+inner_depth-requires c =
     let s = c.nodes.invariant _ _ c.requires.argument.at in
     let h = doing_within s in let d = doing_deep s in search rules
 
-pub nodes-smaller-then-has-parts : goal.nodes-smaller-then-has-parts
-nodes-smaller-then-has-parts c = let h = doing_within (c.nodes.invariant _ _ c.requires.argument.at) in search rules
+pub nodes-smaller-then-has_parts : goal.nodes-smaller-then-has_parts
+nodes-smaller-then-has_parts c = let h = doing_within (c.nodes.invariant _ _ c.requires.argument.at) in search rules
 
-pub nodes-preserved-then-has-parts : goal.nodes-preserved-then-has-parts
-nodes-preserved-then-has-parts c u y b =
+pub nodes-preserved-then-has_parts : goal.nodes-preserved-then-has_parts
+nodes-preserved-then-has_parts c u y b =
     let s = c.nodes.invariant u y b in
-    let v = doing_stack s (lent_length c.nodes.stack c.put-node.new.stack c.nodes.free (doing_low s) c.put-node.auto.stack) (lent_stands c.nodes.stack c.put-node.new.stack c.nodes.free (doing_low s) c.put-node.auto.stack) in
-    let r : c.sign-at-sign.result ≡ root v.term = c.sign-at-sign.ensures _ _ (doing_at v) in
-    let q : Appends c.nodes.out c.nodes.end (subst_here u c.nodes.depth v.term) c.put-node.new.out c.in-Done.next =
+    let v = doing_stack s (lent_length c.nodes.stack c.put_node.new.stack c.nodes.free (doing_low s) c.put_node.auto.stack) (lent_stands c.nodes.stack c.put_node.new.stack c.nodes.free (doing_low s) c.put_node.auto.stack) in
+    let r : c.sign_at-sign.result ≡ root v.term = c.sign_at-sign.ensures _ _ (doing_at v) in
+    let q : Appends c.nodes.out c.nodes.end (subst_here u c.nodes.depth v.term) c.put_node.new.out c.in-Done.next =
     append_as _ _ _ _ _ _ (ap (subst_words c.nodes.depth u) r) (c.in-Done.ensures u y b) in
-    doing_in v q (ap has_parts (sym r) ∙ sym c.if-has-parts.ensures) c.push-number-free.new.stack c.push-number-free.result c.push-number-free.auto.stack
-    (push_as _ _ _ _ _ _ (c.inner-depth.ensures ∙ ap (λ x. under x c.nodes.depth) r) c.push-number-free.ensures)
+    doing_in v q (ap has_parts (sym r) ∙ sym c.if-has_parts.ensures) c.push_number-free.new.stack c.push_number-free.result c.push_number-free.auto.stack
+    (push_as _ _ _ _ _ _ (c.inner_depth.ensures ∙ ap (λ x. under x c.nodes.depth) r) c.push_number-free.ensures)
 
 pub returns-then-free-stack : goal.returns-then-free-stack
 returns-then-free-stack c t u x y a b =
     let s = c.nodes.invariant u y b in
-    let v = doing_stack s (lent_length c.nodes.stack c.put-node.new.stack c.nodes.free (doing_low s) c.put-node.auto.stack) (lent_stands c.nodes.stack c.put-node.new.stack c.nodes.free (doing_low s) c.put-node.auto.stack) in
-    let r : c.sign-at-sign.result ≡ root v.term = c.sign-at-sign.ensures _ _ (doing_at v) in
-    let q : Appends c.nodes.out c.nodes.end (subst_here u c.nodes.depth v.term) c.put-node.new.out c.in-Done.next =
+    let v = doing_stack s (lent_length c.nodes.stack c.put_node.new.stack c.nodes.free (doing_low s) c.put_node.auto.stack) (lent_stands c.nodes.stack c.put_node.new.stack c.nodes.free (doing_low s) c.put_node.auto.stack) in
+    let r : c.sign_at-sign.result ≡ root v.term = c.sign_at-sign.ensures _ _ (doing_at v) in
+    let q : Appends c.nodes.out c.nodes.end (subst_here u c.nodes.depth v.term) c.put_node.new.out c.in-Done.next =
     append_as _ _ _ _ _ _ (ap (subst_words c.nodes.depth u) r) (c.in-Done.ensures u y b) in
-    doing_done v q (ap has_parts (sym r) ∙ sym c.if-has-parts.ensures) c.if-free-stack.true t x a
+    doing_done v q (ap has_parts (sym r) ∙ sym c.if-has_parts.ensures) c.if-free-stack.true t x a
 
 pub nodes-smaller : goal.nodes-smaller
 nodes-smaller c = let h = doing_within (c.nodes.invariant _ _ c.requires.argument.at) in search rules
@@ -74,8 +74,8 @@ nodes-smaller c = let h = doing_within (c.nodes.invariant _ _ c.requires.argumen
 pub nodes-preserved : goal.nodes-preserved
 nodes-preserved c u y b =
     let s = c.nodes.invariant u y b in
-    let v = doing_stack s (lent_length c.nodes.stack c.put-node.new.stack c.nodes.free (doing_low s) c.put-node.auto.stack) (lent_stands c.nodes.stack c.put-node.new.stack c.nodes.free (doing_low s) c.put-node.auto.stack) in
-    let r : c.sign-at-sign.result ≡ root v.term = c.sign-at-sign.ensures _ _ (doing_at v) in
-    let q : Appends c.nodes.out c.nodes.end (subst_here u c.nodes.depth v.term) c.put-node.new.out c.in-Done.next =
+    let v = doing_stack s (lent_length c.nodes.stack c.put_node.new.stack c.nodes.free (doing_low s) c.put_node.auto.stack) (lent_stands c.nodes.stack c.put_node.new.stack c.nodes.free (doing_low s) c.put_node.auto.stack) in
+    let r : c.sign_at-sign.result ≡ root v.term = c.sign_at-sign.ensures _ _ (doing_at v) in
+    let q : Appends c.nodes.out c.nodes.end (subst_here u c.nodes.depth v.term) c.put_node.new.out c.in-Done.next =
     append_as _ _ _ _ _ _ (ap (subst_words c.nodes.depth u) r) (c.in-Done.ensures u y b) in
-    doing_out v q (ap has_parts (sym r) ∙ sym c.if-has-parts.ensures) c.if-free-stack.false c.number-at-depth.result c.number-at-depth.ensures
+    doing_out v q (ap has_parts (sym r) ∙ sym c.if-has_parts.ensures) c.if-free-stack.false c.number_at-depth.result c.number_at-depth.ensures

@@ -6,17 +6,17 @@ use Rattle.terms.proofs.walk.end_of.Goals.{then-words-place-lt3, else-words-plac
 pub loop-pending-init : goal.loop-pending-init
 loop-pending-init c = come_start _ _ c.requires
 
-pub offset-bounds-words-place : goal.offset-bounds-words-place
-offset-bounds-words-place c = let h : Turn c.args.words.now c.loop-pending.place c.loop-pending.pending = come_turn _ c.args.at _ _ c.loop-pending.invariant c.loop-pending-test.true in search rules
+pub offset_bounds-words-place : goal.offset_bounds-words-place
+offset_bounds-words-place c = let h : Turn c.args.words.now c.loop-pending.place c.loop-pending.pending = come_turn _ c.args.at _ _ c.loop-pending.invariant c.loop-pending-test.true in search rules
 
 pub bounds-words-place : goal.bounds-words-place
 bounds-words-place c = let h : Turn c.args.words.now c.loop-pending.place c.loop-pending.pending = come_turn _ c.args.at _ _ c.loop-pending.invariant c.loop-pending-test.true in search rules
 
-pub overflow-add-pending : goal.overflow-add-pending
-overflow-add-pending c = let h : Turn c.args.words.now c.loop-pending.place c.loop-pending.pending = come_turn _ c.args.at _ _ c.loop-pending.invariant c.loop-pending-test.true in search rules
+pub overflow_add-pending : goal.overflow_add-pending
+overflow_add-pending c = let h : Turn c.args.words.now c.loop-pending.place c.loop-pending.pending = come_turn _ c.args.at _ _ c.loop-pending.invariant c.loop-pending-test.true in search rules
 
-pub overflow-add-place : goal.overflow-add-place
-overflow-add-place c = let h : Turn c.args.words.now c.loop-pending.place c.loop-pending.pending = come_turn _ c.args.at _ _ c.loop-pending.invariant c.loop-pending-test.true in search rules
+pub overflow_add-place : goal.overflow_add-place
+overflow_add-place c = let h : Turn c.args.words.now c.loop-pending.place c.loop-pending.pending = come_turn _ c.args.at _ _ c.loop-pending.invariant c.loop-pending-test.true in search rules
 
 pub loop-pending-smaller : goal.loop-pending-smaller
 loop-pending-smaller c = let h : Turn c.args.words.now c.loop-pending.place c.loop-pending.pending = come_turn _ c.args.at _ _ c.loop-pending.invariant c.loop-pending-test.true in search rules

@@ -7,14 +7,14 @@ use Rattle.terms.proofs.walk.equal.Goals.{then-left-p-lt3, else-left-p-lt3}
 pub loop-pairs-init : goal.loop-pairs-init
 loop-pairs-init c = pairs_start _ _ _ _ c.requires.left c.requires.right
 
-pub same-node-requires : goal.same-node-requires
-same-node-requires c = record { left = pairs_left _ _ _ _ _ _ _ c.loop-pairs.invariant c.loop-pairs-test.true; right = pairs_right _ _ _ _ _ _ _ c.loop-pairs.invariant c.loop-pairs-test.true }
+pub same_node-requires : goal.same_node-requires
+same_node-requires c = record { left = pairs_left _ _ _ _ _ _ _ c.loop-pairs.invariant c.loop-pairs-test.true; right = pairs_right _ _ _ _ _ _ _ c.loop-pairs.invariant c.loop-pairs-test.true }
 
-pub returns-then-not-same-node : goal.returns-then-not-same-node
-returns-then-not-same-node c = pairs_differ _ _ _ _ _ _ _ c.loop-pairs.invariant c.loop-pairs-test.true c.if-not-same-node.ensures
+pub returns-then-not-same_node : goal.returns-then-not-same_node
+returns-then-not-same_node c = pairs_differ _ _ _ _ _ _ _ c.loop-pairs.invariant c.loop-pairs-test.true c.if-not-same_node.ensures
 
-pub offset-bounds-left-p : goal.offset-bounds-left-p
-offset-bounds-left-p c =
+pub offset_bounds-left-p : goal.offset_bounds-left-p
+offset_bounds-left-p c =
     let h : c.loop-pairs.p + c.loop-pairs.pairs < length c.args.left.now = pairs_few _ _ c.args.i c.args.j _ c.loop-pairs.q _ c.loop-pairs.invariant c.loop-pairs-test.true in
     let k : c.loop-pairs.p + 3 ≤ length c.args.left.now = holds_within _ _ (pairs_left _ _ _ _ _ _ _ c.loop-pairs.invariant c.loop-pairs-test.true) in
     let l : c.loop-pairs.q + 3 ≤ length c.args.right.now = holds_within _ _ (pairs_right _ _ _ _ _ _ _ c.loop-pairs.invariant c.loop-pairs-test.true) in
@@ -27,22 +27,22 @@ bounds-left-p c =
     let l : c.loop-pairs.q + 3 ≤ length c.args.right.now = holds_within _ _ (pairs_right _ _ _ _ _ _ _ c.loop-pairs.invariant c.loop-pairs-test.true) in
     search rules
 
-pub overflow-add-pairs : goal.overflow-add-pairs
-overflow-add-pairs c =
+pub overflow_add-pairs : goal.overflow_add-pairs
+overflow_add-pairs c =
     let h : c.loop-pairs.p + c.loop-pairs.pairs < length c.args.left.now = pairs_few _ _ c.args.i c.args.j _ c.loop-pairs.q _ c.loop-pairs.invariant c.loop-pairs-test.true in
     let k : c.loop-pairs.p + 3 ≤ length c.args.left.now = holds_within _ _ (pairs_left _ _ _ _ _ _ _ c.loop-pairs.invariant c.loop-pairs-test.true) in
     let l : c.loop-pairs.q + 3 ≤ length c.args.right.now = holds_within _ _ (pairs_right _ _ _ _ _ _ _ c.loop-pairs.invariant c.loop-pairs-test.true) in
     search rules
 
-pub overflow-add-p : goal.overflow-add-p
-overflow-add-p c =
+pub overflow_add-p : goal.overflow_add-p
+overflow_add-p c =
     let h : c.loop-pairs.p + c.loop-pairs.pairs < length c.args.left.now = pairs_few _ _ c.args.i c.args.j _ c.loop-pairs.q _ c.loop-pairs.invariant c.loop-pairs-test.true in
     let k : c.loop-pairs.p + 3 ≤ length c.args.left.now = holds_within _ _ (pairs_left _ _ _ _ _ _ _ c.loop-pairs.invariant c.loop-pairs-test.true) in
     let l : c.loop-pairs.q + 3 ≤ length c.args.right.now = holds_within _ _ (pairs_right _ _ _ _ _ _ _ c.loop-pairs.invariant c.loop-pairs-test.true) in
     search rules
 
-pub overflow-add-q : goal.overflow-add-q
-overflow-add-q c =
+pub overflow_add-q : goal.overflow_add-q
+overflow_add-q c =
     let h : c.loop-pairs.p + c.loop-pairs.pairs < length c.args.left.now = pairs_few _ _ c.args.i c.args.j _ c.loop-pairs.q _ c.loop-pairs.invariant c.loop-pairs-test.true in
     let k : c.loop-pairs.p + 3 ≤ length c.args.left.now = holds_within _ _ (pairs_left _ _ _ _ _ _ _ c.loop-pairs.invariant c.loop-pairs-test.true) in
     let l : c.loop-pairs.q + 3 ≤ length c.args.right.now = holds_within _ _ (pairs_right _ _ _ _ _ _ _ c.loop-pairs.invariant c.loop-pairs-test.true) in
@@ -57,8 +57,8 @@ loop-pairs-smaller c =
 
 pub loop-pairs-preserved : goal.loop-pairs-preserved
 loop-pairs-preserved c = elim c.if-left-p-lt3.branch [
-  | then-left-p-lt3 w ↦ rw w.pairs-is (pairs_in _ _ _ _ _ _ _ c.loop-pairs.invariant c.loop-pairs-test.true c.if-not-same-node.ensures w.if-left-p-lt3.true)
-  | else-left-p-lt3 w ↦ rw w.pairs-is (pairs_out _ _ _ _ _ _ _ c.loop-pairs.invariant c.loop-pairs-test.true c.if-not-same-node.ensures w.if-left-p-lt3.false)
+  | then-left-p-lt3 w ↦ rw w.pairs-is (pairs_in _ _ _ _ _ _ _ c.loop-pairs.invariant c.loop-pairs-test.true c.if-not-same_node.ensures w.if-left-p-lt3.true)
+  | else-left-p-lt3 w ↦ rw w.pairs-is (pairs_out _ _ _ _ _ _ _ c.loop-pairs.invariant c.loop-pairs-test.true c.if-not-same_node.ensures w.if-left-p-lt3.false)
 ]
 
 pub returns : goal.returns
