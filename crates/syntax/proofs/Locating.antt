@@ -1,5 +1,5 @@
 -- Places in a text: the line of the place one byte further, and what stands where a declaration begins.
-use Rattle.std.proofs.Common.{◌≡◌, ℕ, ◌+◌, ◌-◌, ◌<◌, ◌≤◌, Bool, true, false, cond, eqb, List, [], ◌∷◌, ◌++◌, length, get_or, take, drop, sym, refl, ap, ◌∙◌, inl, inr, append_assoc, add_assoc, zero-add, arith, length-append, take-append-drop, Bor, MutBor}
+use Rattle.std.proofs.Common.{◌≡◌, ℕ, ◌+◌, ◌-◌, ◌<◌, ◌≤◌, Bool, true, false, cond, eqb, List, [], ◌∷◌, ◌++◌, length, get_or, take, drop, sym, refl, ap, ◌∙◌, inl, inr, append_assoc, add_assoc, zero-add, arith, length-append, take-append-drop, Bor}
 use mathlib.Core.Option.{some, none}
 use lib.Seq.{take-append_seam, drop-append_seam}
 use Rattle.std.proofs.lemmas.List.{take_more}
@@ -86,11 +86,11 @@ pub go_counted : (bs old front : List ℕ) (n left : ℕ) (t : Cut) → nth_decl
 go_counted bs old front n left t p e f q z = go_on bs old front n left (left - 1) t p e f (nth_counted left (lexeme t.token) (tokens t.rest.now) q z)
 
 -- The word at hand begins the declaration that was looked for: bytes are left for it, and this is its header.
-pub word_fits : (bs old front : List ℕ) (t : Cut) (k : MutBor (List ℕ)) → bs ≡ front ++ old → CutsOne old t → t.token ≡ Word k
+pub word_fits : (bs old front : List ℕ) (t : Cut) (k : Bor (List ℕ)) → bs ≡ front ++ old → CutsOne old t → t.token ≡ Word k
     → length k.now + length t.rest.now ≤ length bs
 word_fits bs old front t k e f w = omega (arith, ap (λ (x : Token). length (lexeme x)) w, back_length bs (front ++ f.front) (lexeme t.token) t.rest.now (token_place bs old front t e f))
 
-pub header_found : (bs old front : List ℕ) (n left : ℕ) (t : Cut) (k : MutBor (List ℕ)) (x : WordRest)
+pub header_found : (bs old front : List ℕ) (n left : ℕ) (t : Cut) (k : Bor (List ℕ)) (x : WordRest)
     → nth_decl n (tokens bs) ≡ nth_decl left (tokens old) → bs ≡ front ++ old → CutsOne old t → t.token ≡ Word k → begins_decl k.now ≡ true → left ≡ 0
     → WordAt is_name t.rest.now x
     → HeaderAt bs n (record { keyword = k; name = x.name; at = length bs - length k.now - length t.rest.now })

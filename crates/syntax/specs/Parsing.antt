@@ -1,7 +1,7 @@
 -- What the parser's functions promise: each follows a reader, and writes what is read.
 use Rattle.std.specs.Prelude.{◌≡◌, ℕ, zero, suc, ◌+◌, ◌*◌, ◌<◌, ◌≤◌, max, cond, List, [], ◌∷◌, ◌++◌, length, Ok, Err, Result}
 use Rattle.std.proofs.Math.Option.{some, none, Option as Maybe}
-use Rattle.std.specs.Borrow.{MutBor}
+use Rattle.std.specs.Borrow.{Bor}
 use Rattle.syntax.specs.Surface.{Name, Expr, e_at, e_full, e_sort, e_pi, e_lam, e_have, e_hole, e_by, expr_stage}
 use Rattle.syntax.specs.Tokens.{tokens}
 use Rattle.syntax.specs.Grammar.{t_rp, t_lc, t_rc, t_dot, t_at, t_hole, k_type}
@@ -17,7 +17,7 @@ use Rattle.syntax.specs.declared.reading.Link.{Link}
 use Rattle.syntax.specs.declared.reading.Link.TheVariants.{More, Last}
 
 -- A given token, a name, a number must come first.
-abbrev pub Expects : Name → List ℕ → Result (MutBor (List ℕ)) Stop → Type 0
+abbrev pub Expects : Name → List ℕ → Result (Bor (List ℕ)) Stop → Type 0
 Expects k bs (Ok r) = (eat k (tokens bs) ≡ some (tokens r.now)) × Behind bs r.now
 Expects k bs (Err s) = eat k (tokens bs) ≡ none
 

@@ -13,7 +13,7 @@ use crate::scan::{Word, eat, read_binder, starts_atom};
 use crate::write::{insert, push, push_named};
 
 // A term.
-#[cycle(apply_arrow_atom_block_bound_exact_function_function_type_have_script_script_link_term_term_link_uses)]
+#[cycle(reader)]
 pub fn term<'a>(bytes: &'a [u8], out: &mut [u32], len: usize) -> Result<Read<'a>, Stop>
     requires { len + 4 * length bytes.now ≤ length out.old }
     ensures { FollowsExpr (lower read_term) bytes.now out.old len out.new result }
@@ -41,7 +41,7 @@ pub fn term<'a>(bytes: &'a [u8], out: &mut [u32], len: usize) -> Result<Read<'a>
 }
 
 // A binder of a term, or its last part.
-#[cycle(apply_arrow_atom_block_bound_exact_function_function_type_have_script_script_link_term_term_link_uses)]
+#[cycle(reader)]
 fn term_link<'a>(bytes: &'a [u8], out: &mut [u32], len: usize) -> Result<Link<'a>, Stop>
     requires { len + 4 * length bytes.now ≤ length out.old }
     ensures { Links read_term term_reader bytes.now out.old len out.new result }
@@ -59,7 +59,7 @@ fn term_link<'a>(bytes: &'a [u8], out: &mut [u32], len: usize) -> Result<Link<'a
 }
 
 // Behind ( x : a type and the closing bracket, written with a tag and the name.
-#[cycle(apply_arrow_atom_block_bound_exact_function_function_type_have_script_script_link_term_term_link_uses)]
+#[cycle(reader)]
 pub fn bound<'a>(tag: u32, word: Word<'a>, out: &mut [u32], len: usize) -> Result<Read<'a>, Stop>
     requires some { 1 ≤ length word.name.now }
     requires short { length word.name.now ≤ 32 }
@@ -77,7 +77,7 @@ pub fn bound<'a>(tag: u32, word: Word<'a>, out: &mut [u32], len: usize) -> Resul
 }
 
 // Behind fun: the bound variable, up to =>.
-#[cycle(apply_arrow_atom_block_bound_exact_function_function_type_have_script_script_link_term_term_link_uses)]
+#[cycle(reader)]
 fn function<'a>(bytes: &'a [u8], out: &mut [u32], len: usize) -> Result<Read<'a>, Stop>
     requires { len + 4 * length bytes.now ≤ length out.old }
     ensures { Opens read_fun term_reader (tokens bytes.now) (4 * length bytes.now) out.old len out.new result }
@@ -98,7 +98,7 @@ fn function<'a>(bytes: &'a [u8], out: &mut [u32], len: usize) -> Result<Read<'a>
 }
 
 // Behind ( x : the rest of a function type's domain, up to ->.
-#[cycle(apply_arrow_atom_block_bound_exact_function_function_type_have_script_script_link_term_term_link_uses)]
+#[cycle(reader)]
 fn function_type<'a>(word: Word<'a>, out: &mut [u32], len: usize) -> Result<Read<'a>, Stop>
     requires some { 1 ≤ length word.name.now }
     requires short { length word.name.now ≤ 32 }
@@ -115,7 +115,7 @@ fn function_type<'a>(word: Word<'a>, out: &mut [u32], len: usize) -> Result<Read
 }
 
 // A row of atoms, and the arrow behind it if there is one.
-#[cycle(apply_arrow_atom_block_bound_exact_function_function_type_have_script_script_link_term_term_link_uses)]
+#[cycle(reader)]
 fn arrow<'a>(bytes: &'a [u8], out: &mut [u32], len: usize) -> Result<Link<'a>, Stop>
     requires { len + 4 * length bytes.now ≤ length out.old }
     ensures { Links read_arrow term_reader bytes.now out.old len out.new result }
@@ -134,7 +134,7 @@ fn arrow<'a>(bytes: &'a [u8], out: &mut [u32], len: usize) -> Result<Link<'a>, S
 }
 
 // A row of atoms: the first, used on the others.
-#[cycle(apply_arrow_atom_block_bound_exact_function_function_type_have_script_script_link_term_term_link_uses)]
+#[cycle(reader)]
 fn uses<'a>(bytes: &'a [u8], out: &mut [u32], len: usize) -> Result<Read<'a>, Stop>
     requires { len + 4 * length bytes.now ≤ length out.old }
     ensures { FollowsExpr (lower read_uses) bytes.now out.old len out.new result }
@@ -160,7 +160,7 @@ fn uses<'a>(bytes: &'a [u8], out: &mut [u32], len: usize) -> Result<Read<'a>, St
 }
 
 // An atom.
-#[cycle(apply_arrow_atom_block_bound_exact_function_function_type_have_script_script_link_term_term_link_uses)]
+#[cycle(reader)]
 fn atom<'a>(bytes: &'a [u8], out: &mut [u32], len: usize) -> Result<Read<'a>, Stop>
     requires { len + 4 * length bytes.now ≤ length out.old }
     ensures { FollowsExpr (lower read_atom) bytes.now out.old len out.new result }
@@ -183,7 +183,7 @@ fn atom<'a>(bytes: &'a [u8], out: &mut [u32], len: usize) -> Result<Read<'a>, St
 }
 
 // Behind by: a script in braces.
-#[cycle(apply_arrow_atom_block_bound_exact_function_function_type_have_script_script_link_term_term_link_uses)]
+#[cycle(reader)]
 fn block<'a>(bytes: &'a [u8], out: &mut [u32], len: usize) -> Result<Read<'a>, Stop>
     requires { len + 4 * length bytes.now ≤ length out.old }
     ensures { FollowsExpr (level read_block) bytes.now out.old len out.new result }
@@ -200,7 +200,7 @@ fn block<'a>(bytes: &'a [u8], out: &mut [u32], len: usize) -> Result<Read<'a>, S
 }
 
 // A script.
-#[cycle(apply_arrow_atom_block_bound_exact_function_function_type_have_script_script_link_term_term_link_uses)]
+#[cycle(reader)]
 fn script<'a>(bytes: &'a [u8], out: &mut [u32], len: usize) -> Result<Read<'a>, Stop>
     requires { len + 4 * length bytes.now ≤ length out.old }
     ensures { FollowsExpr (lower read_script) bytes.now out.old len out.new result }
@@ -228,7 +228,7 @@ fn script<'a>(bytes: &'a [u8], out: &mut [u32], len: usize) -> Result<Read<'a>, 
 }
 
 // A step of a script: one that leaves the rest to come, or the last.
-#[cycle(apply_arrow_atom_block_bound_exact_function_function_type_have_script_script_link_term_term_link_uses)]
+#[cycle(reader)]
 fn script_link<'a>(bytes: &'a [u8], out: &mut [u32], len: usize) -> Result<Link<'a>, Stop>
     requires { len + 4 * length bytes.now ≤ length out.old }
     ensures { Links read_script script_reader bytes.now out.old len out.new result }
@@ -272,7 +272,7 @@ fn intro<'a>(bytes: &'a [u8], out: &mut [u32], len: usize) -> Result<Read<'a>, S
 }
 
 // Behind have: a name, its type, and a script in braces.
-#[cycle(apply_arrow_atom_block_bound_exact_function_function_type_have_script_script_link_term_term_link_uses)]
+#[cycle(reader)]
 fn have<'a>(bytes: &'a [u8], out: &mut [u32], len: usize) -> Result<Read<'a>, Stop>
     requires { len + 4 * length bytes.now ≤ length out.old }
     ensures { Opens read_have script_reader (tokens bytes.now) (4 * length bytes.now) out.old len out.new result }
@@ -292,7 +292,7 @@ fn have<'a>(bytes: &'a [u8], out: &mut [u32], len: usize) -> Result<Read<'a>, St
 }
 
 // Behind exact: a term.
-#[cycle(apply_arrow_atom_block_bound_exact_function_function_type_have_script_script_link_term_term_link_uses)]
+#[cycle(reader)]
 fn exact<'a>(bytes: &'a [u8], out: &mut [u32], len: usize) -> Result<Read<'a>, Stop>
     requires { len + 4 * length bytes.now ≤ length out.old }
     ensures { FollowsExpr (level read_exact) bytes.now out.old len out.new result }
@@ -307,7 +307,7 @@ fn exact<'a>(bytes: &'a [u8], out: &mut [u32], len: usize) -> Result<Read<'a>, S
 }
 
 // Behind apply: a term, used on the scripts in braces behind it.
-#[cycle(apply_arrow_atom_block_bound_exact_function_function_type_have_script_script_link_term_term_link_uses)]
+#[cycle(reader)]
 fn apply<'a>(bytes: &'a [u8], out: &mut [u32], len: usize) -> Result<Read<'a>, Stop>
     requires { len + 4 * length bytes.now ≤ length out.old }
     ensures { FollowsExpr (level read_apply) bytes.now out.old len out.new result }

@@ -28,5 +28,5 @@ returns c =
       wrote = append_as _ _ _ _ _ _ (named 1 _) c.push_named-end.ensures;
       stage = refl;
       fewer = omega (arith, w.fewer);
-      room = omega (arith, c.push_named-end.ensures.ends, w.shorter, w.some-bytes);
+      room = omega (arith, c.push_named-end.ensures.ends, w.shorter, w.some_bytes);
     }

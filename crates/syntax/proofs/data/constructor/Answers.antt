@@ -30,6 +30,6 @@ returns c =
       noted = append_as _ _ _ _ _ _ (note_alone _ _) c.note-noted.ensures;
       stage = p.stage;
       fewer = omega (arith, w.fewer, p.fewer, a.1.fewer, k.behind.fewer, s.1.fewer);
-      room = omega (arith, w.shorter, w.some-bytes, c.push_named-at.ensures.ends, p.room, a.1.shorter, k.behind.shorter, s.1.shorter, c.push-end.ensures.ends);
-      note_room = omega (arith, w.shorter, w.some-bytes, c.note-noted.ensures.ends, p.room, p.wrote.ends, a.1.shorter, k.behind.shorter, s.1.shorter);
+      room = omega (arith, w.shorter, w.some_bytes, c.push_named-at.ensures.ends, p.room, a.1.shorter, k.behind.shorter, s.1.shorter, c.push-end.ensures.ends);
+      note_room = omega (arith, w.shorter, w.some_bytes, c.note-noted.ensures.ends, p.room, p.wrote.ends, a.1.shorter, k.behind.shorter, s.1.shorter);
     }

@@ -18,6 +18,6 @@ returns c =
       noted = append_as _ _ _ _ _ _ (note_alone _ _) c.note-noted.ensures;
       stage = elim c.if-hidden-eq0.branch [ then-hidden-eq0 w ↦ w.stage-is ∙ hidden_none _ w.if-hidden-eq0.true | else-hidden-eq0 w ↦ w.stage-is ∙ hidden_some _ w.if-hidden-eq0.false ];
       fewer = omega (arith, w.fewer, h.fewer);
-      room = omega (arith, w.shorter, w.some-bytes, h.shorter, c.push_named-at.ensures.ends, c.push-end.ensures.ends);
-      note_room = omega (arith, w.shorter, w.some-bytes, h.shorter, c.note-noted.ensures.ends);
+      room = omega (arith, w.shorter, w.some_bytes, h.shorter, c.push_named-at.ensures.ends, c.push-end.ensures.ends);
+      note_room = omega (arith, w.shorter, w.some_bytes, h.shorter, c.note-noted.ensures.ends);
     }

@@ -17,5 +17,5 @@ returns c =
       wrote = append_then _ _ _ _ _ _ _ _ c.push_named-at.ensures c.push-end.ensures;
       stage = refl;
       fewer = omega (arith, w.fewer, e.1.fewer);
-      room = omega (arith, c.push_named-at.ensures.ends, c.push-end.ensures.ends, w.shorter, e.1.shorter, w.some-bytes);
+      room = omega (arith, c.push_named-at.ensures.ends, c.push-end.ensures.ends, w.shorter, e.1.shorter, w.some_bytes);
     }

@@ -3,7 +3,7 @@ use Rattle.syntax.specs.Reader.{readers}
 use Rattle.syntax.specs.Parsing.{term_reader, script_reader}
 use Rattle.syntax.proofs.Chains.{Chain}
 use Rattle.syntax.proofs.Rows.{Row}
-use Rattle.syntax.proofs.terms.+apply_arrow_atom_block_bound_exact_function_function_type_have_script_script_link_term_term_link_uses.Given as goal
+use Rattle.syntax.proofs.terms.+reader.Given as goal
 
 abbrev pub decreases-apply : goal.decreases-apply
 decreases-apply l = 8 * length l.bytes.now + 6

@@ -12,7 +12,7 @@ use Rattle.syntax.proofs.Following.{fails, done_by}
 use Rattle.syntax.proofs.TermReadings.{bind_is, then_not, term_at, script_at, lower-none, lower-some, none-up, done_up, opened_up, links_as, none_as, links_more, links_last, apply_args, links_fail, opens_fail, bound_then, wrap-then, arrow_none, arrow_alone, arrow_to, term_arrow, atom_leaf, atom_block}
 use Rattle.syntax.proofs.Chains.{chain_start, chain_more, chain_last, chain_none}
 use Rattle.syntax.proofs.Rows.{row_start, row_more, row_none, row_end, lower_link}
-use Rattle.syntax.proofs.terms.+apply_arrow_atom_block_bound_exact_function_function_type_have_script_script_link_term_term_link_uses.Goals as goal
+use Rattle.syntax.proofs.terms.+reader.Goals as goal
 
 -- exact
 
@@ -252,14 +252,14 @@ term-returns-in_err-link t c =
 pub term-loop-link-preserved : goal.term-loop-link-preserved
 term-loop-link-preserved t c =
     let bs = c.loop-link.rest.now in
-    chain_more term_reader read_term (λ ts. refl) (λ n ts. refl) c.args.bytes.now c.args.out.now c.args.len c.loop-link.out c.term-link.new.out bs c.loop-link.end c.loop-link.stage c.max-stage.result c.in-More.read
-    c.max-stage.ensures c.loop-link.invariant (links_more read_term term_reader bs c.loop-link.out c.loop-link.end c.term-link.new.out c.in_ok-link.link c.in-More.read c.in-More.is c.in_ok-link.ensures)
+    chain_more term_reader read_term (λ ts. refl) (λ n ts. refl) c.args.bytes.now c.args.out.now c.args.len c.loop-link.out c.term_link.new.out bs c.loop-link.end c.loop-link.stage c.max-stage.result c.in-More.read
+    c.max-stage.ensures c.loop-link.invariant (links_more read_term term_reader bs c.loop-link.out c.loop-link.end c.term_link.new.out c.in_ok-link.link c.in-More.read c.in-More.is c.in_ok-link.ensures)
 
 pub term-returns-in-Last : goal.term-returns-in-Last
 term-returns-in-Last t c =
     let bs = c.loop-link.rest.now in
-    chain_last term_reader read_term (λ ts. refl) (λ n ts. refl) c.args.bytes.now c.args.out.now c.args.len c.loop-link.out c.term-link.new.out bs c.loop-link.end c.loop-link.stage c.in-Last.read _ refl refl
-    c.max.ensures c.loop-link.invariant (links_last read_term term_reader bs c.loop-link.out c.loop-link.end c.term-link.new.out c.in_ok-link.link c.in-Last.read c.in-Last.is c.in_ok-link.ensures)
+    chain_last term_reader read_term (λ ts. refl) (λ n ts. refl) c.args.bytes.now c.args.out.now c.args.len c.loop-link.out c.term_link.new.out bs c.loop-link.end c.loop-link.stage c.in-Last.read _ refl refl
+    c.max.ensures c.loop-link.invariant (links_last read_term term_reader bs c.loop-link.out c.loop-link.end c.term_link.new.out c.in_ok-link.link c.in-Last.read c.in-Last.is c.in_ok-link.ensures)
 
 pub script-loop-link-init : goal.script-loop-link-init
 script-loop-link-init t c = chain_start script_reader _ _ _
@@ -272,14 +272,14 @@ script-returns-in_err-link t c =
 pub script-loop-link-preserved : goal.script-loop-link-preserved
 script-loop-link-preserved t c =
     let bs = c.loop-link.rest.now in
-    chain_more script_reader read_script (λ ts. refl) (λ n ts. refl) c.args.bytes.now c.args.out.now c.args.len c.loop-link.out c.script-link.new.out bs c.loop-link.end c.loop-link.stage c.max-stage.result c.in-More.read
-    c.max-stage.ensures c.loop-link.invariant (links_more read_script script_reader bs c.loop-link.out c.loop-link.end c.script-link.new.out c.in_ok-link.link c.in-More.read c.in-More.is c.in_ok-link.ensures)
+    chain_more script_reader read_script (λ ts. refl) (λ n ts. refl) c.args.bytes.now c.args.out.now c.args.len c.loop-link.out c.script_link.new.out bs c.loop-link.end c.loop-link.stage c.max-stage.result c.in-More.read
+    c.max-stage.ensures c.loop-link.invariant (links_more read_script script_reader bs c.loop-link.out c.loop-link.end c.script_link.new.out c.in_ok-link.link c.in-More.read c.in-More.is c.in_ok-link.ensures)
 
 pub script-returns-in-Last : goal.script-returns-in-Last
 script-returns-in-Last t c =
     let bs = c.loop-link.rest.now in
-    chain_last script_reader read_script (λ ts. refl) (λ n ts. refl) c.args.bytes.now c.args.out.now c.args.len c.loop-link.out c.script-link.new.out bs c.loop-link.end c.loop-link.stage c.in-Last.read _ refl refl
-    c.max.ensures c.loop-link.invariant (links_last read_script script_reader bs c.loop-link.out c.loop-link.end c.script-link.new.out c.in_ok-link.link c.in-Last.read c.in-Last.is c.in_ok-link.ensures)
+    chain_last script_reader read_script (λ ts. refl) (λ n ts. refl) c.args.bytes.now c.args.out.now c.args.len c.loop-link.out c.script_link.new.out bs c.loop-link.end c.loop-link.stage c.in-Last.read _ refl refl
+    c.max.ensures c.loop-link.invariant (links_last read_script script_reader bs c.loop-link.out c.loop-link.end c.script_link.new.out c.in_ok-link.link c.in-Last.read c.in-Last.is c.in_ok-link.ensures)
 
 -- term_link
 
@@ -346,7 +346,7 @@ have-returns t c =
       wrote = append_as _ _ _ _ _ _ (ap (λ (z : List ℕ). 10 ∷ length x ∷ z) (append_assoc x _ _ ∙ ap (λ (z : List ℕ). x ++ z) (sym (expr_then d.value _)))) (append_then _ _ _ _ _ _ _ _ (append_then _ _ _ _ _ _ _ _ c.push_named-at.ensures d.wrote) g.wrote);
       stage = c.max.ensures ∙ ap₂ max d.stage g.stage;
       fewer = omega (arith, w.fewer, e.1.fewer, d.fewer, f.1.fewer, g.fewer, k.1.fewer);
-      room = omega (arith, w.shorter, w.some-bytes, e.1.shorter, d.room, f.1.shorter, g.room, k.1.shorter, c.push_named-at.ensures.ends);
+      room = omega (arith, w.shorter, w.some_bytes, e.1.shorter, d.room, f.1.shorter, g.room, k.1.shorter, c.push_named-at.ensures.ends);
     }
 
 -- apply
