@@ -11,7 +11,7 @@ use Rattle.terms.specs.Words.{put, puts, number, At}
 use Rattle.terms.specs.Writing.{Appends}
 use Rattle.terms.proofs.Nodes.{join, put_append, put-length}
 use Rattle.terms.proofs.Places.{at_words}
-use Rattle.terms.proofs.Appending.{append_to, append_then, append_one, append_three, append_stands}
+use Rattle.terms.proofs.Appending.{append_as, append_to, append_then, append_one, append_three, append_stands}
 use Rattle.reduction.specs.Store.{put_counts, put_fields, put_entry, place, EntryAt, EnvAt}
 use Rattle.reduction.proofs.Storing.{entry_three, get_past}
 
@@ -88,6 +88,31 @@ declared index store index' store' count used e' end d l p q e v =
     (tr (λ w. EnvAt (take (2 * count) index ++ number used []) w (e ++ (d ∷ []))) (sym q.words)
     (env_snoc (take (2 * count) index) (take used store) e d used v (length-take-le used store l)))
 
+-- The words of a definition and of an axiom, piece by piece.
+words_of : (ws : List ℕ) (p q : ℕ) (t : Term) (r : List ℕ) → At ws p t r → q ≡ p + 3 * size t → drop p (take q ws) ≡ put t []
+words_of ws p q t r a e = ap (λ k. drop p (take k ws)) e ∙ at_words ws p t r a
+
+pub definition_words : (store s₁ s₂ s₃ ws : List ℕ) (used l m n o : ℕ) (a t : Term) (x y : List ℕ) (p q p' q' : ℕ)
+    → Appends store used (0 ∷ number (q - p) []) s₁ l → Appends s₁ l (drop p (take q ws)) s₂ m → Appends s₂ m (drop p' (take q' ws)) s₃ n
+    → At ws p a x → At ws p' t y → q ≡ p + 3 * size a → q' ≡ p' + 3 * size t → Appends store used (put_entry (defined t a) []) s₃ n
+definition_words store s₁ s₂ s₃ ws used l m n o a t x y p q p' q' f g h u v i j =
+    append_as store s₃ used n _ _
+    (ap (λ (k : ℕ). 0 ∷ k % 4294967296 ∷ k / 4294967296 ∷ (put a [] ++ put t [])) (let z : q - p ≡ 3 * size a = omega arith in z)
+    ∙ ap (λ (w : List ℕ). 0 ∷ (3 * size a) % 4294967296 ∷ (3 * size a) / 4294967296 ∷ w) (sym (put_append a [] (put t []))))
+    (append_then store s₁ s₃ used l n (0 ∷ number (q - p) []) (put a [] ++ put t []) f
+    (append_then s₁ s₂ s₃ l m n (put a []) (put t [])
+    (append_as s₁ s₂ l m _ _ (words_of ws p q a x u i) g) (append_as s₂ s₃ m n _ _ (words_of ws p' q' t y v j) h)))
+
+pub axiom_words : (store s₁ s₂ ws : List ℕ) (used l m : ℕ) (a : Term) (x : List ℕ) (p q : ℕ)
+    → Appends store used (1 ∷ number 0 []) s₁ l → Appends s₁ l (drop p (take q ws)) s₂ m → At ws p a x → q ≡ p + 3 * size a → Appends store used (put_entry (assumed a) []) s₂ m
+axiom_words store s₁ s₂ ws used l m a x p q f g u i = append_then store s₁ s₂ used l m (1 ∷ 0 ∷ 0 ∷ []) (put a []) f (append_as s₁ s₂ l m _ _ (words_of ws p q a x u i) g)
+
+pub definition_long : (t a : Term) → length (put_entry (defined t a) []) ≡ 3 + 3 * (size a + size t)
+definition_long t a = omega (arith, put-length a (put t []), put-length t [])
+
+pub axiom_long : (a : Term) → length (put_entry (assumed a) []) ≡ 3 + 3 * size a
+axiom_long a = omega (arith, put-length a [])
+
 -- Three words put before others that stand there.
 pub marked : (s : List ℕ) (used a b c : ℕ) (new : List ℕ) (end : ℕ) → used + 3 ≤ length s → Appends s (used + 3) new s end
     → Appends s used (a ∷ b ∷ c ∷ new) (set (set (set s used a) (used + 1) b) (used + 2) c) end
@@ -118,3 +143,6 @@ pub append_pair : (o : List ℕ) (l x y : ℕ) → l + 2 ≤ length o → Append
 append_pair o l x y h =
     append_to o _ l (l + 1 + 1) (l + 2) _ (omega arith)
     (append_then o _ _ l (l + 1) (l + 1 + 1) (x ∷ []) (y ∷ []) (append_one o l x (omega arith)) (append_one (set o l x) (l + 1) y (omega (arith, length-set o l x))))
+
+pub copied_long : (ws : List ℕ) (p q : ℕ) → p ≤ q → q ≤ length ws → length (drop p (take q ws)) ≡ q - p
+copied_long ws p q l h = length-drop p (take q ws) ∙ ap (λ k. k - p) (length-take-le q ws h)

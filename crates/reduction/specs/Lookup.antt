@@ -1,8 +1,8 @@
 -- What looking up and declaring an entry promise.
-use Rattle.std.specs.Prelude.{◌≡◌, ℕ, ◌+◌, ◌*◌, List, [], ◌∷◌, ◌++◌, length, take, Some, None, Option as Maybe}
+use Rattle.std.specs.Prelude.{◌≡◌, ℕ, ◌+◌, ◌*◌, ◌<◌, ◌⊎◌, List, [], ◌∷◌, ◌++◌, length, take, Some, None, Option as Maybe}
 use Rattle.std.proofs.Math.Option.{Option, some, none}
 use Rattle.std.proofs.Math.ListN.{get_elem?}
-use Rattle.theory.specs.Terms.{Term, option}
+use Rattle.theory.specs.Terms.{Term, size, option}
 use Rattle.theory.specs.Environment.{Constructor, DataType, Entry, defined, assumed, inductive, Env, entry_data, data_at}
 use Rattle.terms.specs.Words.{At}
 use Rattle.terms.specs.Writing.{Appends}
@@ -46,6 +46,12 @@ con_at o i = option o none (λ k. get_elem? k.cons i)
 abbrev pub FindsCon : Option Constructor → Maybe ConNumbers → Type 0
 FindsCon o None = o ≡ none
 FindsCon o (Some n) = (c : Constructor) × (o ≡ some c) × (n.fields ≡ length c.fields) × (n.recs ≡ c.recs)
+
+-- The environment in the first 2 * count words of the table and the first used words of the store, with one entry more up to end; or there is no room for it.
+abbrev pub Declares : (index store : List ℕ) (count used : ℕ) (index' store' : List ℕ) (d : Entry) (words : ℕ) → Maybe ℕ → Type 0
+Declares index store count used index' store' d words None = (length index < 2 * (count + 1)) ⊎ (length store < used + words)
+Declares index store count used index' store' d words (Some end) =
+    (e : Env) → EnvAt (take (2 * count) index) (take used store) e → EnvAt (take (2 * (count + 1)) index') (take end store') (e ++ (d ∷ [])) × (end ≡ used + words)
 
 -- The environment in the first 2 * count words of the table and the first used words of the store; once the words new stand in the
 -- store behind three more, up to end, the table and the store hold one entry more.

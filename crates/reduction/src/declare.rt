@@ -1,11 +1,15 @@
-// An entry put behind the environment. Its terms stand in the store already, behind room for three words that say what it is.
-ghost use Rattle.std.specs.Prelude.{◌≡◌, ℕ, ◌+◌, ◌*◌, ◌^◌, ◌<◌, ◌≤◌, List, [], ◌∷◌, ◌++◌, length};
+// An entry put behind the environment.
+ghost use Rattle.std.specs.Prelude.{◌≡◌, ℕ, ◌+◌, ◌*◌, ◌<◌, ◌≤◌, List, [], ◌∷◌, ◌++◌, length, take};
+ghost use Rattle.std.proofs.Math.ListN.{get_elem?};
 ghost use Rattle.theory.specs.Terms.{Term, size};
 ghost use Rattle.theory.specs.Environment.{Entry, Env, defined, assumed};
-ghost use Rattle.terms.specs.Words.{put, number};
+ghost use Rattle.terms.specs.Words.{At, Holds, put, number};
 ghost use Rattle.terms.specs.Writing.{Appends};
 ghost use Rattle.reduction.specs.Store.{put_entry, EnvAt};
-ghost use Rattle.reduction.specs.Lookup.{Declared};
+ghost use Rattle.reduction.specs.Lookup.{Declares, Declared};
+
+use terms::copy::copy_words;
+use terms::walk::end_of;
 
 // A number in two words, the low one first.
 fn push_pair(out: &mut [u32], at: usize, value: usize) -> usize
@@ -17,8 +21,78 @@ fn push_pair(out: &mut [u32], at: usize, value: usize) -> usize
     at + 2
 }
 
+// The mark of an entry and a number in two words.
+fn push_mark(out: &mut [u32], at: usize, mark: u32, value: usize) -> usize
+    requires { at + 3 ≤ length out.old }
+    ensures { Appends out.old at (mark ∷ number value []) out.new result }
+{
+    out[at] = mark;
+    push_pair(out, at + 1, value)
+}
+
+// A definition: the type and the body that stand at these places.
+pub fn declare_definition(
+    index: &mut [u32],
+    count: usize,
+    store: &mut [u32],
+    used: usize,
+    terms: &[u32],
+    type_at: usize,
+    body_at: usize,
+) -> Option<usize>
+    requires typed { Holds terms.now type_at }
+    requires body { Holds terms.now body_at }
+    requires table { 2 * count ≤ length index.old }
+    requires entries { used ≤ length store.old }
+    ensures { (t a : Term) (x y : List ℕ) → At terms.now type_at a x → At terms.now body_at t y → Declares index.old store.old count used index.new store.new (defined t a) (3 + 3 * (size a + size t)) result }
+{
+    let type_end = end_of(terms, type_at);
+    let body_end = end_of(terms, body_at);
+    let type_len = type_end - type_at;
+    let body_len = body_end - body_at;
+    if index.len() - 2 * count < 2 {
+        return None;
+    }
+    if store.len() - used < 3 + (type_len + body_len) {
+        return None;
+    }
+    let first = push_mark(store, used, 0, type_len);
+    let second = copy_words(terms, type_at, type_end, store, first);
+    let end = copy_words(terms, body_at, body_end, store, second);
+    push_pair(index, 2 * count, used);
+    Some(end)
+}
+
+// An axiom: the type that stands at this place.
+pub fn declare_axiom(
+    index: &mut [u32],
+    count: usize,
+    store: &mut [u32],
+    used: usize,
+    terms: &[u32],
+    type_at: usize,
+) -> Option<usize>
+    requires typed { Holds terms.now type_at }
+    requires table { 2 * count ≤ length index.old }
+    requires entries { used ≤ length store.old }
+    ensures { (a : Term) (x : List ℕ) → At terms.now type_at a x → Declares index.old store.old count used index.new store.new (assumed a) (3 + 3 * size a) result }
+{
+    let type_end = end_of(terms, type_at);
+    let type_len = type_end - type_at;
+    if index.len() - 2 * count < 2 {
+        return None;
+    }
+    if store.len() - used < 3 + type_len {
+        return None;
+    }
+    let first = push_mark(store, used, 1, 0);
+    let end = copy_words(terms, type_at, type_end, store, first);
+    push_pair(index, 2 * count, used);
+    Some(end)
+}
+
 // The entry whose words behind the first three stand in the store.
-fn declare(index: &mut [u32], count: usize, store: &mut [u32], used: usize, mark: u32, value: usize)
+fn enter(index: &mut [u32], count: usize, store: &mut [u32], used: usize, mark: u32, value: usize)
     requires table { 2 * (count + 1) ≤ length index.old }
     requires entry { used + 3 ≤ length store.old }
     ensures { (d : Entry) (new : List ℕ) → put_entry d [] ≡ mark ∷ number value new → Declared index.old store.old count used index.new store.new d new }
@@ -30,7 +104,7 @@ fn declare(index: &mut [u32], count: usize, store: &mut [u32], used: usize, mark
 }
 
 // A definition: its type stands in the store behind those three words, its body from `body_at` on.
-pub fn declare_definition(
+pub fn enter_definition(
     index: &mut [u32],
     count: usize,
     store: &mut [u32],
@@ -43,14 +117,14 @@ pub fn declare_definition(
     ensures { (t a : Term) → body_at ≡ used + 3 + 3 * size a → Declared index.old store.old count used index.new store.new (defined t a) (put a (put t [])) }
 {
     let type_len = body_at - (used + 3);
-    declare(index, count, store, used, 0, type_len);
+    enter(index, count, store, used, 0, type_len);
 }
 
 // An axiom: its type stands in the store behind those three words.
-pub fn declare_axiom(index: &mut [u32], count: usize, store: &mut [u32], used: usize)
+pub fn enter_axiom(index: &mut [u32], count: usize, store: &mut [u32], used: usize)
     requires table { 2 * (count + 1) ≤ length index.old }
     requires entry { used + 3 ≤ length store.old }
     ensures { (a : Term) → Declared index.old store.old count used index.new store.new (assumed a) (put a []) }
 {
-    declare(index, count, store, used, 1, 0);
+    enter(index, count, store, used, 1, 0);
 }

@@ -9,29 +9,29 @@ use Rattle.reduction.proofs.Reading.{from_lam, along_head}
 use Rattle.reduction.proofs.Spelling.{rec_redex, beta_result, copies_make}
 use Rattle.reduction.proofs.make.contract_app.Goals as goal
 
-pub overflow-add-at : goal.overflow-add-at
-overflow-add-at c = let h = at_length c.args.words.now c.args.at (app c.requires.fun c.requires.arg) c.requires.rest c.requires.here in omega arith
+pub overflow_add-at : goal.overflow_add-at
+overflow_add-at c = let h = at_length c.args.words.now c.args.at (app c.requires.fun c.requires.arg) c.requires.rest c.requires.here in omega arith
 
-pub sign-at-requires : goal.sign-at-requires
-sign-at-requires c = record { term = c.requires.fun; rest = put c.requires.arg c.requires.rest; at = at_function c.args.words.now c.args.at c.requires.fun c.requires.arg c.requires.rest c.requires.here }
+pub sign_at-requires : goal.sign_at-requires
+sign_at-requires c = record { term = c.requires.fun; rest = put c.requires.arg c.requires.rest; at = at_function c.args.words.now c.args.at c.requires.fun c.requires.arg c.requires.rest c.requires.here }
 
-pub make-beta-requires : goal.make-beta-requires
-make-beta-requires c =
+pub make_beta-requires : goal.make_beta-requires
+make_beta-requires c =
     let p = c.requires in
-    let (x, y, is) = from_lam p.fun (sym c.in-Lam.is ∙ c.sign-at.ensures p.fun _ (at_function c.args.words.now c.args.at p.fun p.arg p.rest p.here)) in
+    let (x, y, is) = from_lam p.fun (sym c.in-Lam.is ∙ c.sign_at.ensures p.fun _ (at_function c.args.words.now c.args.at p.fun p.arg p.rest p.here)) in
     record { domain = x; body = y; argument = p.arg; rest = p.rest; here = tr (λ z. At c.args.words.now c.args.at (app z p.arg) p.rest) is p.here; small = p.small }
 
 pub returns-in-Lam : goal.returns-in-Lam
 returns-in-Lam c = λ e f a u rest p s.
-    let (x, y, is) = from_lam f (sym c.in-Lam.is ∙ c.sign-at.ensures f _ (at_function c.args.words.now c.args.at f a rest p)) in
-    copies_make e c.args.out.now c.make-beta.new.out (length c.args.stack.now) u c.make-beta.result c.made-from.result c.made-from.ensures
-    (tr (λ z. Copies c.args.out.now 0 c.make-beta.new.out (length c.args.stack.now) z c.make-beta.result) (beta_result e f a x y is s)
-    (c.make-beta.ensures x y a rest (tr (λ z. At c.args.words.now c.args.at (app z a) rest) is p)))
+    let (x, y, is) = from_lam f (sym c.in-Lam.is ∙ c.sign_at.ensures f _ (at_function c.args.words.now c.args.at f a rest p)) in
+    copies_make e c.args.out.now c.make_beta.new.out (length c.args.stack.now) u c.make_beta.result c.made_from.result c.made_from.ensures
+    (tr (λ z. Copies c.args.out.now 0 c.make_beta.new.out (length c.args.stack.now) z c.make_beta.result) (beta_result e f a x y is s)
+    (c.make_beta.ensures x y a rest (tr (λ z. At c.args.words.now c.args.at (app z a) rest) is p)))
 
-pub make-along-requires : goal.make-along-requires
-make-along-requires c =
+pub make_along-requires : goal.make_along-requires
+make_along-requires c =
     let p = c.requires in
-    let h = c.count-uses-count.ensures.head (app p.fun p.arg) p.rest p.here in
+    let h = c.count_uses-count.ensures.head (app p.fun p.arg) p.rest p.here in
     record {
       env = p.env;
       fun = p.fun;
@@ -41,23 +41,23 @@ make-along-requires c =
       second = c.in-Along.field-1;
       rest = p.rest;
       here = p.here;
-      head = along_head _ _ _ (sym c.in-Along.is ∙ c.sign-at-2.ensures _ h.rest h.at);
+      head = along_head _ _ _ (sym c.in-Along.is ∙ c.sign_at-2.ensures _ h.rest h.at);
       steps = p.steps;
     }
 
 pub returns-in-Along : goal.returns-in-Along
 returns-in-Along c = λ e f a u rest p s.
-    let h = c.count-uses-count.ensures.head (app f a) rest p in
-    copies_make e c.args.out.now c.make-along.new.out (length c.args.stack.now) u c.make-along.result c.made-from-in-Along.result c.made-from-in-Along.ensures
-    (c.make-along.ensures e f a u c.in-Along.field-0 c.in-Along.field-1 rest p (along_head _ _ _ (sym c.in-Along.is ∙ c.sign-at-2.ensures _ h.rest h.at)) s)
+    let h = c.count_uses-count.ensures.head (app f a) rest p in
+    copies_make e c.args.out.now c.make_along.new.out (length c.args.stack.now) u c.make_along.result c.made_from-in-Along.result c.made_from-in-Along.ensures
+    (c.make_along.ensures e f a u c.in-Along.field-0 c.in-Along.field-1 rest p (along_head _ _ _ (sym c.in-Along.is ∙ c.sign_at-2.ensures _ h.rest h.at)) s)
 
 pub returns : goal.returns
 returns c = λ e f a u rest p s.
-    let h = c.count-uses-count.ensures.head (app f a) rest p in
-    rec_redex e f a u c.sign-at.result c.sign-at-2.result (c.sign-at.ensures f _ (at_function c.args.words.now c.args.at f a rest p)) c.in-default.not-Lam
-    (c.sign-at-2.ensures _ h.rest h.at) c.in-default-sign-at.not-Along s
+    let h = c.count_uses-count.ensures.head (app f a) rest p in
+    rec_redex e f a u c.sign_at.result c.sign_at-2.result (c.sign_at.ensures f _ (at_function c.args.words.now c.args.at f a rest p)) c.in_default.not-Lam
+    (c.sign_at-2.ensures _ h.rest h.at) c.in_default-sign_at.not-Along s
 
-pub sign-at-requires-2 : goal.sign-at-requires-2
-sign-at-requires-2 c =
-    let h = c.count-uses-count.ensures.head (app c.requires.fun c.requires.arg) c.requires.rest c.requires.here in
+pub sign_at-requires-2 : goal.sign_at-requires-2
+sign_at-requires-2 c =
+    let h = c.count_uses-count.ensures.head (app c.requires.fun c.requires.arg) c.requires.rest c.requires.here in
     record { term = head_term c.requires.fun; rest = h.rest; at = h.at }

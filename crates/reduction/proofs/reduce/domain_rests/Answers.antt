@@ -5,8 +5,8 @@ use Rattle.reduction.proofs.Finding.{node}
 use Rattle.reduction.proofs.Aiming.{three_words, first_word, other_tag, pi_tag, domain_here, domain_place, domain_is, domain_findable}
 use Rattle.reduction.proofs.reduce.domain_rests.Goals as goal
 
-pub offset-bounds-heap-at : goal.offset-bounds-heap-at
-offset-bounds-heap-at c = let h : c.args.at + 3 ≤ length c.args.heap.now = three_words c.args.heap.now c.requires.front c.requires.rest c.requires.term c.args.at c.requires.here c.requires.placed in search rules
+pub offset_bounds-heap-at : goal.offset_bounds-heap-at
+offset_bounds-heap-at c = let h : c.args.at + 3 ≤ length c.args.heap.now = three_words c.args.heap.now c.requires.front c.requires.rest c.requires.term c.args.at c.requires.here c.requires.placed in search rules
 
 pub bounds-heap-at : goal.bounds-heap-at
 bounds-heap-at c = let h : c.args.at + 3 ≤ length c.args.heap.now = three_words c.args.heap.now c.requires.front c.requires.rest c.requires.term c.args.at c.requires.here c.requires.placed in search rules
@@ -14,8 +14,8 @@ bounds-heap-at c = let h : c.args.at + 3 ≤ length c.args.heap.now = three_word
 pub returns-then-heap-at-ne0 : goal.returns-then-heap-at-ne0
 returns-then-heap-at-ne0 c = λ e front rest t v p q. other_tag e t (λ z. c.if-heap-at-ne0.true (first_word c.args.heap.now front rest t c.args.at p q ∙ z))
 
-pub overflow-add-at : goal.overflow-add-at
-overflow-add-at c = let h : c.args.at + 3 ≤ length c.args.heap.now = three_words c.args.heap.now c.requires.front c.requires.rest c.requires.term c.args.at c.requires.here c.requires.placed in search rules
+pub overflow_add-at : goal.overflow_add-at
+overflow_add-at c = let h : c.args.at + 3 ≤ length c.args.heap.now = three_words c.args.heap.now c.requires.front c.requires.rest c.requires.term c.args.at c.requires.here c.requires.placed in search rules
 
 pub find-requires : goal.find-requires
 find-requires c = domain_findable c.args.index.now c.args.store.now c.args.heap.now c.args.at (length c.args.stack.now) c.requires c.if-heap-at-ne0.false

@@ -3,14 +3,14 @@ use Rattle.reduction.specs.Aims.{Met}
 use Rattle.reduction.proofs.Aiming.{three_words, met_pi, met_sort}
 use Rattle.reduction.proofs.reduce.met.Goals as goal
 
-pub offset-bounds-heap-at : goal.offset-bounds-heap-at
-offset-bounds-heap-at c = let h : c.args.at + 3 ≤ length c.args.heap.now = three_words c.args.heap.now c.requires.front c.requires.rest c.requires.term c.args.at c.requires.here c.requires.placed in search rules
+pub offset_bounds-heap-at : goal.offset_bounds-heap-at
+offset_bounds-heap-at c = let h : c.args.at + 3 ≤ length c.args.heap.now = three_words c.args.heap.now c.requires.front c.requires.rest c.requires.term c.args.at c.requires.here c.requires.placed in search rules
 
 pub bounds-heap-at : goal.bounds-heap-at
 bounds-heap-at c = let h : c.args.at + 3 ≤ length c.args.heap.now = three_words c.args.heap.now c.requires.front c.requires.rest c.requires.term c.args.at c.requires.here c.requires.placed in search rules
 
-pub offset-bounds-heap-at-in-ToSort : goal.offset-bounds-heap-at-in-ToSort
-offset-bounds-heap-at-in-ToSort c = let h : c.args.at + 3 ≤ length c.args.heap.now = three_words c.args.heap.now c.requires.front c.requires.rest c.requires.term c.args.at c.requires.here c.requires.placed in search rules
+pub offset_bounds-heap-at-in-ToSort : goal.offset_bounds-heap-at-in-ToSort
+offset_bounds-heap-at-in-ToSort c = let h : c.args.at + 3 ≤ length c.args.heap.now = three_words c.args.heap.now c.requires.front c.requires.rest c.requires.term c.args.at c.requires.here c.requires.placed in search rules
 
 pub bounds-heap-at-in-ToSort : goal.bounds-heap-at-in-ToSort
 bounds-heap-at-in-ToSort c = let h : c.args.at + 3 ≤ length c.args.heap.now = three_words c.args.heap.now c.requires.front c.requires.rest c.requires.term c.args.at c.requires.here c.requires.placed in search rules

@@ -8,8 +8,8 @@ loop-place-init c = down_start c.args.words.now c.args.at c.requires
 pub loop-place-preserved : goal.loop-place-preserved
 loop-place-preserved c = down_on c.args.words.now c.args.at c.loop-place.place c.loop-place.count c.requires c.loop-place.invariant c.loop-place-test.true
 
-pub overflow-add-count : goal.overflow-add-count
-overflow-add-count c = omega (arith, c.loop-place.invariant.placed, c.loop-place.invariant.within)
+pub overflow_add-count : goal.overflow_add-count
+overflow_add-count c = omega (arith, c.loop-place.invariant.placed, c.loop-place.invariant.within)
 
 pub returns : goal.returns
 returns c = record {

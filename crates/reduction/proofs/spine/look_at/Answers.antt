@@ -6,30 +6,30 @@ use Rattle.reduction.proofs.spine.look_at.Goals as goal
 
 pub returns-in-Lam : goal.returns-in-Lam
 returns-in-Lam c = λ e t rest v at.
-    let h = c.count-uses-count.ensures.head t rest at in
-    let (a, b, is) = from_lam _ (sym c.in-Lam.is ∙ c.sign-at-head.ensures _ h.rest h.at) in
-    look_lam e c.args.at t a b c.count-uses-count.result h.count (omega arith) is
+    let h = c.count_uses-count.ensures.head t rest at in
+    let (a, b, is) = from_lam _ (sym c.in-Lam.is ∙ c.sign_at-head.ensures _ h.rest h.at) in
+    look_lam e c.args.at t a b c.count_uses-count.result h.count (omega arith) is
 
 pub returns-then-unfolds : goal.returns-then-unfolds
 returns-then-unfolds c = λ e t rest v at.
-    let h = c.count-uses-count.ensures.head t rest at in
-    let (u, is) = c.if-unfolds.ensures e (head_term t) v (c.sign-at-head.ensures _ h.rest h.at) in
-    look_def e c.args.at t u c.count-uses-count.result h.count is
+    let h = c.count_uses-count.ensures.head t rest at in
+    let (u, is) = c.if-unfolds.ensures e (head_term t) v (c.sign_at-head.ensures _ h.rest h.at) in
+    look_def e c.args.at t u c.count_uses-count.result h.count is
 
 pub returns-then-argument-eq0 : goal.returns-then-argument-eq0
 returns-then-argument-eq0 c = λ e t rest v at.
-    let h = c.count-uses-count.ensures.head t rest at in
-    let s = c.sign-at-head.ensures _ h.rest h.at in
-    look_spread e c.args.at t c.count-uses-count.result c.needed-argument.result h.count (omega arith) (no_lam _ _ s c.in-default.not-Lam) (c.needed-argument.ensures.wants e _ v s) (inl c.if-argument-eq0.true)
+    let h = c.count_uses-count.ensures.head t rest at in
+    let s = c.sign_at-head.ensures _ h.rest h.at in
+    look_spread e c.args.at t c.count_uses-count.result c.needed-argument.result h.count (omega arith) (no_lam _ _ s c.in_default.not-Lam) (c.needed-argument.ensures.wants e _ v s) (inl c.if-argument-eq0.true)
 
 pub returns-then-argument-count : goal.returns-then-argument-count
 returns-then-argument-count c = λ e t rest v at.
-    let h = c.count-uses-count.ensures.head t rest at in
-    let s = c.sign-at-head.ensures _ h.rest h.at in
-    look_needs e c.args.at t c.count-uses-count.result c.needed-argument.result h.count (c.needed-argument.ensures.two (omega arith)) c.if-argument-count.true (no_lam _ _ s c.in-default.not-Lam) (c.needed-argument.ensures.wants e _ v s)
+    let h = c.count_uses-count.ensures.head t rest at in
+    let s = c.sign_at-head.ensures _ h.rest h.at in
+    look_needs e c.args.at t c.count_uses-count.result c.needed-argument.result h.count (c.needed-argument.ensures.two (omega arith)) c.if-argument-count.true (no_lam _ _ s c.in_default.not-Lam) (c.needed-argument.ensures.wants e _ v s)
 
 pub returns-else-argument-count : goal.returns-else-argument-count
 returns-else-argument-count c = λ e t rest v at.
-    let h = c.count-uses-count.ensures.head t rest at in
-    let s = c.sign-at-head.ensures _ h.rest h.at in
-    look_spread e c.args.at t c.count-uses-count.result c.needed-argument.result h.count (omega arith) (no_lam _ _ s c.in-default.not-Lam) (c.needed-argument.ensures.wants e _ v s) (inr c.if-argument-count.false)
+    let h = c.count_uses-count.ensures.head t rest at in
+    let s = c.sign_at-head.ensures _ h.rest h.at in
+    look_spread e c.args.at t c.count_uses-count.result c.needed-argument.result h.count (omega arith) (no_lam _ _ s c.in_default.not-Lam) (c.needed-argument.ensures.wants e _ v s) (inr c.if-argument-count.false)

@@ -4,8 +4,8 @@ use Rattle.resolver.proofs.Shapes.{name_bound, name_free}
 use Rattle.resolver.proofs.nodes.name_sign.Goals as goal
 
 pub returns-in-Some : goal.returns-in-Some
-returns-in-Some c gs ys x g s n = name_bound gs ys x _ (sym c.in-Some.is ∙ c.index-of.ensures ys s ∙ ap (index_found ys) (c.name-at-name.ensures x n))
+returns-in-Some c gs ys x g s n = name_bound gs ys x _ (sym c.in-Some.is ∙ c.index_of.ensures ys s ∙ ap (index_found ys) (c.name_at-name.ensures x n))
 
 pub returns-in-None : goal.returns-in-None
 returns-in-None c gs ys x g s n =
-    c.lookup.ensures gs g ∙ ap (global_sign gs) (c.name-at-name.ensures x n) ∙ name_free gs ys x (sym c.in-None.is ∙ c.index-of.ensures ys s ∙ ap (index_found ys) (c.name-at-name.ensures x n))
+    c.lookup.ensures gs g ∙ ap (global_sign gs) (c.name_at-name.ensures x n) ∙ name_free gs ys x (sym c.in-None.is ∙ c.index_of.ensures ys s ∙ ap (index_found ys) (c.name_at-name.ensures x n))

@@ -2,38 +2,38 @@ use Rattle.std.proofs.Common.{arith, rules}
 use Rattle.resolver.proofs.Shapes.{shape, plain_within, plain_named, plain_indexed, node_name, node_indexed, node_sort, node_pi, node_lam, node_app}
 use Rattle.resolver.proofs.nodes.node_sign.Goals as goal
 
-pub offset-bounds-tree-place : goal.offset-bounds-tree-place
-offset-bounds-tree-place c = let h = plain_within _ _ c.requires.stands in search rules
+pub offset_bounds-tree-place : goal.offset_bounds-tree-place
+offset_bounds-tree-place c = let h = plain_within _ _ c.requires.stands in search rules
 
 pub bounds-tree-place : goal.bounds-tree-place
 bounds-tree-place c = let h = plain_within _ _ c.requires.stands in search rules
 
-pub overflow-add-place : goal.overflow-add-place
-overflow-add-place c = let h = plain_within _ _ c.requires.stands in search rules
+pub overflow_add-place : goal.overflow_add-place
+overflow_add-place c = let h = plain_within _ _ c.requires.stands in search rules
 
-pub overflow-add-place-in-2 : goal.overflow-add-place-in-2
-overflow-add-place-in-2 c = let h = plain_within _ _ c.requires.stands in search rules
+pub overflow_add-place-in-2 : goal.overflow_add-place-in-2
+overflow_add-place-in-2 c = let h = plain_within _ _ c.requires.stands in search rules
 
-pub overflow-add-result : goal.overflow-add-result
-overflow-add-result c = let h = plain_within _ _ c.requires.stands in search rules
+pub overflow_add-result : goal.overflow_add-result
+overflow_add-result c = let h = plain_within _ _ c.requires.stands in search rules
 
-pub offset-bounds-tree-place-in-4 : goal.offset-bounds-tree-place-in-4
-offset-bounds-tree-place-in-4 c = let h = plain_within _ _ c.requires.stands in search rules
+pub offset_bounds-tree-place-in-4 : goal.offset_bounds-tree-place-in-4
+offset_bounds-tree-place-in-4 c = let h = plain_within _ _ c.requires.stands in search rules
 
 pub bounds-tree-place-in-4 : goal.bounds-tree-place-in-4
 bounds-tree-place-in-4 c = let h = plain_within _ _ c.requires.stands in search rules
 
-pub name-sign-requires : goal.name-sign-requires
-name-sign-requires c = record { known = c.requires.known; named = plain_named _ _ c.requires.stands (λ e. omega (arith, c.in-1.is)) (λ e. omega (arith, c.in-1.is)) }
+pub name_sign-requires : goal.name_sign-requires
+name_sign-requires c = record { known = c.requires.known; named = plain_named _ _ c.requires.stands (λ e. omega (arith, c.in-1.is)) (λ e. omega (arith, c.in-1.is)) }
 
-pub indexed-sign-requires : goal.indexed-sign-requires
-indexed-sign-requires c = record { known = c.requires.known; indexed = plain_indexed _ _ c.requires.stands c.in-2.is }
+pub indexed_sign-requires : goal.indexed_sign-requires
+indexed_sign-requires c = record { known = c.requires.known; indexed = plain_indexed _ _ c.requires.stands c.in-2.is }
 
 pub returns-in-1 : goal.returns-in-1
-returns-in-1 c gs ys e rest g s a = node_name _ _ gs ys (shape _ _ _ _ a) c.in-1.is _ (λ x n. c.name-sign.ensures gs ys x g s n)
+returns-in-1 c gs ys e rest g s a = node_name _ _ gs ys (shape _ _ _ _ a) c.in-1.is _ (λ x n. c.name_sign.ensures gs ys x g s n)
 
 pub returns-in-2 : goal.returns-in-2
-returns-in-2 c gs ys e rest g s a = node_indexed _ _ gs ys (shape _ _ _ _ a) c.in-2.is _ (λ x ns n. c.indexed-sign.ensures gs ys x ns g s n)
+returns-in-2 c gs ys e rest g s a = node_indexed _ _ gs ys (shape _ _ _ _ a) c.in-2.is _ (λ x ns n. c.indexed_sign.ensures gs ys x ns g s n)
 
 pub returns-in-4 : goal.returns-in-4
 returns-in-4 c gs ys e rest g s a = node_sort _ _ gs ys (shape _ _ _ _ a) c.in-4.is
@@ -44,5 +44,5 @@ returns-in-5 c gs ys e rest g s a = node_pi _ _ gs ys (shape _ _ _ _ a) c.in-5.i
 pub returns-in-6 : goal.returns-in-6
 returns-in-6 c gs ys e rest g s a = node_lam _ _ gs ys (shape _ _ _ _ a) c.in-6.is
 
-pub returns-in-default : goal.returns-in-default
-returns-in-default c gs ys e rest g s a = node_app _ _ gs ys (shape _ _ _ _ a) (λ z. omega (arith, c.in-default)) (λ z. omega (arith, c.in-default)) (λ z. omega (arith, c.in-default)) (λ z. omega (arith, c.in-default)) (λ z. omega (arith, c.in-default))
+pub returns-in_default : goal.returns-in_default
+returns-in_default c gs ys e rest g s a = node_app _ _ gs ys (shape _ _ _ _ a) (λ z. omega (arith, c.in_default)) (λ z. omega (arith, c.in_default)) (λ z. omega (arith, c.in_default)) (λ z. omega (arith, c.in_default)) (λ z. omega (arith, c.in_default))
