@@ -13,8 +13,8 @@ equal-requires c =
 pub returns-then-equal : goal.returns-then-equal
 returns-then-equal c e a t rest at la lb s = (inl (c.if-equal.ensures a t rest _ la (stands_at _ _ _ t s)), refl)
 
-pub to-normal-requires : goal.to-normal-requires
-to-normal-requires c =
+pub to_normal-requires : goal.to_normal-requires
+to_normal-requires c =
     let p = c.requires.pair in
     record {
       ready = record {
@@ -30,8 +30,8 @@ to-normal-requires c =
       order = omega arith;
     }
 
-pub agree-normal-requires : goal.agree-normal-requires
-agree-normal-requires c =
+pub agree_normal-requires : goal.agree_normal-requires
+agree_normal-requires c =
     let p = c.requires.pair in
     let (u, f, l, b) = c.in-Normal.ensures p.env p.right p.env_at p.right_at in
     let t = stands_within _ _ _ _ p.right_at in
@@ -56,8 +56,8 @@ pub returns-in-Normal : goal.returns-in-Normal
 returns-in-Normal c e a t rest at la lb s =
     let (u, f, l, b) = c.in-Normal.ensures e t at s in
     let w = stands_within _ _ _ _ s in
-    agrees_by e _ _ _ _ _ _ _ _ _ a t u c.agree-normal.result f l b (omega (arith, w.0)) (omega arith) (omega arith)
-    (c.agree-normal.ensures e a u _ at (at_kept _ _ _ _ _ _ a rest (omega (arith, w.0)) lb b la) lb (appended_stands _ _ _ _ u (omega (arith, w.0)) b))
+    agrees_by e _ _ _ _ _ _ _ _ _ a t u c.agree_normal.result f l b (omega (arith, w.0)) (omega arith) (omega arith)
+    (c.agree_normal.ensures e a u _ at (at_kept _ _ _ _ _ _ a rest (omega (arith, w.0)) lb b la) lb (appended_stands _ _ _ _ u (omega (arith, w.0)) b))
 
 pub returns-in-NoRoom : goal.returns-in-NoRoom
 returns-in-NoRoom c e a t rest at la lb s =

@@ -11,27 +11,27 @@ use Rattle.kernel.proofs.Arguments.{applied, pi_within, frame_seven, place_read,
 use Rattle.kernel.proofs.Applying.{applied_typed, applied_full, applied_other, applied_spent, applied_crowded}
 use Rattle.kernel.proofs.argument.back_arg.Goals as goal
 
-pub number-at-place-requires : goal.number-at-place-requires
-number-at-place-requires c = let b = c.requires.can.can.behind in omega (arith, frame_seven (applied b.way (top_view b.way b.kept c.requires.tagged) b.kept))
+pub number_at-place-requires : goal.number_at-place-requires
+number_at-place-requires c = let b = c.requires.can.can.behind in omega (arith, frame_seven (applied b.way (top_view b.way b.kept c.requires.tagged) b.kept))
 
-pub number-at-kept-requires : goal.number-at-kept-requires
-number-at-kept-requires c = let b = c.requires.can.can.behind in omega (arith, frame_seven (applied b.way (top_view b.way b.kept c.requires.tagged) b.kept))
+pub number_at-kept-requires : goal.number_at-kept-requires
+number_at-kept-requires c = let b = c.requires.can.can.behind in omega (arith, frame_seven (applied b.way (top_view b.way b.kept c.requires.tagged) b.kept))
 
-pub number-at-steps-requires : goal.number-at-steps-requires
-number-at-steps-requires c = let b = c.requires.can.can.behind in omega (arith, frame_seven (applied b.way (top_view b.way b.kept c.requires.tagged) b.kept))
+pub number_at-steps-requires : goal.number_at-steps-requires
+number_at-steps-requires c = let b = c.requires.can.can.behind in omega (arith, frame_seven (applied b.way (top_view b.way b.kept c.requires.tagged) b.kept))
 
-pub overflow-add-kept : goal.overflow-add-kept
-overflow-add-kept c =
+pub overflow_add-kept : goal.overflow_add-kept
+overflow_add-kept c =
     let b = c.requires.can.can.behind in
     let d = applied b.way (top_view b.way b.kept c.requires.tagged) b.kept in
-    omega (arith, kept_read d c.number-at-kept.result c.number-at-kept.ensures, pi_within _ _ d.domain d.codomain _ d.type_at)
+    omega (arith, kept_read d c.number_at-kept.result c.number_at-kept.ensures, pi_within _ _ d.domain d.codomain _ d.type_at)
 
 pub agree-requires : goal.agree-requires
 agree-requires c =
     let b = c.requires.can.can.behind in
     let n = c.requires.can.can.given in
     let d = applied b.way (top_view b.way b.kept c.requires.tagged) b.kept in
-    let q = kept_read d c.number-at-kept.result c.number-at-kept.ensures in
+    let q = kept_read d c.number_at-kept.result c.number_at-kept.ensures in
     record {
       pair = record {
         env = c.requires.can.can.task.env;
@@ -40,14 +40,14 @@ agree-requires c =
         left = d.domain;
         right = b.type;
         rest = _;
-        left_at = domain_at d c.number-at-kept.result q;
-        left_below = domain_below d c.number-at-kept.result q;
+        left_at = domain_at d c.number_at-kept.result q;
+        left_below = domain_below d c.number_at-kept.result q;
         right_at = b.stands;
         within = b.within;
         scope = _;
         left_scoped = domain_scoped d n.sensible;
         few = omega (arith, walk_short b.way n.sensible);
-        order = omega (arith, steps_read d c.number-at-steps.result c.number-at-steps.ensures, d.worked.within, c.requires.can.can.steps);
+        order = omega (arith, steps_read d c.number_at-steps.result c.number_at-steps.ensures, d.worked.within, c.requires.can.can.steps);
       };
       right_scoped = type_scoped b.way n.sensible b.has;
     }
@@ -57,11 +57,11 @@ instantiate-requires c =
     let b = c.requires.can.can.behind in
     let n = c.requires.can.can.given in
     let d = applied b.way (top_view b.way b.kept c.requires.tagged) b.kept in
-    let q = kept_read d c.number-at-kept.result c.number-at-kept.ensures in
+    let q = kept_read d c.number_at-kept.result c.number_at-kept.ensures in
     let (o, v) = c.in-Same.ensures c.requires.can.can.task.env d.domain b.type _ n.stored (domain_at d _ q) (domain_below d _ q) b.stands in
     record {
-      argument = holds_small _ _ b.term _ _ _ (argument_read d c.number-at-place.result (place_read d c.number-at-place.result c.number-at-place.ensures)) (typed_scoped b.has.of) (omega (arith, walk_short b.way n.sensible));
-      function = record { domain = d.domain; codomain = d.codomain; rest = _; at = function_at d c.number-at-kept.result q c.agree.new.heap v };
+      argument = holds_small _ _ b.term _ _ _ (argument_read d c.number_at-place.result (place_read d c.number_at-place.result c.number_at-place.ensures)) (typed_scoped b.has.of) (omega (arith, walk_short b.way n.sensible));
+      function = record { domain = d.domain; codomain = d.codomain; rest = _; at = function_at d c.number_at-kept.result q c.agree.new.heap v };
     }
 
 pub returns-in-Some : goal.returns-in-Some
@@ -70,10 +70,10 @@ returns-in-Some c =
       falls = λ t. omega (arith, c.requires.tagged.below);
       turned = λ context k n b e.
           let d = applied b.way (top_view b.way b.kept c.requires.tagged) b.kept in
-          let q = kept_read d c.number-at-kept.result c.number-at-kept.ensures in
+          let q = kept_read d c.number_at-kept.result c.number_at-kept.ensures in
           let (o, v) = c.in-Same.ensures k.env d.domain b.type _ n.stored (domain_at d _ q) (domain_below d _ q) b.stands in
           applied_typed d n.sensible b.has b.kept b.at q v (omega arith) (omega (arith, q, d.top_is, top_within b.way b.kept)) o
-          (c.in-Some.ensures d.domain d.codomain b.term _ _ (function_at d _ q c.agree.new.heap v) (argument_read d c.number-at-place.result (place_read d c.number-at-place.result c.number-at-place.ensures)));
+          (c.in-Some.ensures d.domain d.codomain b.term _ _ (function_at d _ q c.agree.new.heap v) (argument_read d c.number_at-place.result (place_read d c.number_at-place.result c.number_at-place.ensures)));
     }
 
 pub returns-in-None : goal.returns-in-None
@@ -82,10 +82,10 @@ returns-in-None c =
       falls = λ t. omega (arith, c.requires.tagged.below);
       turned = λ context k n b e.
           let d = applied b.way (top_view b.way b.kept c.requires.tagged) b.kept in
-          let q = kept_read d c.number-at-kept.result c.number-at-kept.ensures in
+          let q = kept_read d c.number_at-kept.result c.number_at-kept.ensures in
           let (o, v) = c.in-Same.ensures k.env d.domain b.type _ n.stored (domain_at d _ q) (domain_below d _ q) b.stands in
-          applied_full d n.sensible b.has (length c.agree.new.heap) _ (length c.agree.new.stack) c.number-at-kept.result q (omega arith) (omega (arith, n.stack_room)) o
-          (c.in-None.ensures d.domain d.codomain b.term _ _ (function_at d _ q c.agree.new.heap v) (argument_read d c.number-at-place.result (place_read d c.number-at-place.result c.number-at-place.ensures)));
+          applied_full d n.sensible b.has (length c.agree.new.heap) _ (length c.agree.new.stack) c.number_at-kept.result q (omega arith) (omega (arith, n.stack_room)) o
+          (c.in-None.ensures d.domain d.codomain b.term _ _ (function_at d _ q c.agree.new.heap v) (argument_read d c.number_at-place.result (place_read d c.number_at-place.result c.number_at-place.ensures)));
     }
 
 pub returns-in-Different : goal.returns-in-Different
@@ -94,7 +94,7 @@ returns-in-Different c =
       falls = λ t. omega (arith, c.requires.tagged.below);
       turned = λ context k n b e.
           let d = applied b.way (top_view b.way b.kept c.requires.tagged) b.kept in
-          let q = kept_read d c.number-at-kept.result c.number-at-kept.ensures in
+          let q = kept_read d c.number_at-kept.result c.number_at-kept.ensures in
           applied_other d n.sensible b.has (c.in-Different.ensures k.env d.domain b.type _ n.stored (domain_at d _ q) (domain_below d _ q) b.stands);
     }
 
@@ -104,8 +104,8 @@ returns-in-Spent c =
       falls = λ t. omega (arith, c.requires.tagged.below);
       turned = λ context k n b e.
           let d = applied b.way (top_view b.way b.kept c.requires.tagged) b.kept in
-          let q = kept_read d c.number-at-kept.result c.number-at-kept.ensures in
-          applied_spent d n.sensible b.has c.number-at-steps.result c.args.most (steps_read d c.number-at-steps.result c.number-at-steps.ensures) e
+          let q = kept_read d c.number_at-kept.result c.number_at-kept.ensures in
+          applied_spent d n.sensible b.has c.number_at-steps.result c.args.most (steps_read d c.number_at-steps.result c.number_at-steps.ensures) e
           (c.in-Spent.ensures k.env d.domain b.type _ n.stored (domain_at d _ q) (domain_below d _ q) b.stands);
     }
 
@@ -115,7 +115,7 @@ returns-in-NoRoom c =
       falls = λ t. omega (arith, c.requires.tagged.below);
       turned = λ context k n b e.
           let d = applied b.way (top_view b.way b.kept c.requires.tagged) b.kept in
-          let q = kept_read d c.number-at-kept.result c.number-at-kept.ensures in
-          applied_crowded d n.sensible b.has c.number-at-steps.result c.args.most _ _ _ (steps_read d c.number-at-steps.result c.number-at-steps.ensures) e (omega arith) b.kept.heap_top n.stack_room
+          let q = kept_read d c.number_at-kept.result c.number_at-kept.ensures in
+          applied_crowded d n.sensible b.has c.number_at-steps.result c.args.most _ _ _ (steps_read d c.number_at-steps.result c.number_at-steps.ensures) e (omega arith) b.kept.heap_top n.stack_room
           (c.in-NoRoom.ensures k.env d.domain b.type _ n.stored (domain_at d _ q) (domain_below d _ q) b.stands);
     }

@@ -7,40 +7,40 @@ use Rattle.kernel.proofs.Tops.{appended_within}
 use Rattle.kernel.proofs.Arguments.{codomain_at, pi_within}
 use Rattle.kernel.proofs.argument.instantiate.Goals as goal
 
-pub overflow-add-kept : goal.overflow-add-kept
-overflow-add-kept c = let f = c.requires.function in omega (arith, pi_within _ _ f.domain f.codomain _ f.at)
+pub overflow_add-kept : goal.overflow_add-kept
+overflow_add-kept c = let f = c.requires.function in omega (arith, pi_within _ _ f.domain f.codomain _ f.at)
 
-pub end-of-body-requires : goal.end-of-body-requires
-end-of-body-requires c = let f = c.requires.function in holds _ _ f.domain _ (at_pi_domain _ _ f.domain f.codomain _ f.at)
+pub end_of-body-requires : goal.end_of-body-requires
+end_of-body-requires c = let f = c.requires.function in holds _ _ f.domain _ (at_pi_domain _ _ f.domain f.codomain _ f.at)
 
 pub subst-requires : goal.subst-requires
 subst-requires c =
     let f = c.requires.function in
-    record { stands = holds _ _ f.codomain _ (codomain_at _ _ _ f.domain f.codomain _ f.at c.end-of-body.ensures); argument = c.requires.argument; order = omega arith; shallow = omega arith }
+    record { stands = holds _ _ f.codomain _ (codomain_at _ _ _ f.domain f.codomain _ f.at c.end_of-body.ensures); argument = c.requires.argument; order = omega arith; shallow = omega arith }
 
-pub overflow-sub-heap : goal.overflow-sub-heap
-overflow-sub-heap c = let f = c.requires.function in omega (arith, pi_within _ _ f.domain f.codomain _ f.at)
+pub overflow_sub-heap : goal.overflow_sub-heap
+overflow_sub-heap c = let f = c.requires.function in omega (arith, pi_within _ _ f.domain f.codomain _ f.at)
 
 pub returns-then-heap-kept : goal.returns-then-heap-kept
 returns-then-heap-kept c a b t x y at ta =
-    inl (omega (arith, c.if-heap-kept.true, pi_within _ _ a b _ at, written_end _ _ _ _ (subst 0 t b) (c.in-Done.ensures b t x y (codomain_at _ _ _ a b x at c.end-of-body.ensures) ta)))
+    inl (omega (arith, c.if-heap-kept.true, pi_within _ _ a b _ at, written_end _ _ _ _ (subst 0 t b) (c.in-Done.ensures b t x y (codomain_at _ _ _ a b x at c.end_of-body.ensures) ta)))
 
-pub copy-words-requires : goal.copy-words-requires
-copy-words-requires c =
+pub copy_words-requires : goal.copy_words-requires
+copy_words-requires c =
     let f = c.requires.function in
     let g = c.requires.argument in
-    let w = c.in-Done.ensures f.codomain g.term _ _ (codomain_at _ _ _ f.domain f.codomain _ f.at c.end-of-body.ensures) g.at in
+    let w = c.in-Done.ensures f.codomain g.term _ _ (codomain_at _ _ _ f.domain f.codomain _ f.at c.end_of-body.ensures) g.at in
     record { order = omega arith; within = appended_within _ _ 0 c.in-Done.count (subst 0 g.term f.codomain) (omega arith) w; room = omega (arith, c.if-heap-kept.false, pi_within _ _ f.domain f.codomain _ f.at) }
 
 pub returns-else-heap-kept : goal.returns-else-heap-kept
 returns-else-heap-kept c a b t x y at ta =
-    let w = c.in-Done.ensures b t x y (codomain_at _ _ _ a b x at c.end-of-body.ensures) ta in
-    append_as _ _ _ _ _ _ w.words c.copy-words.ensures
+    let w = c.in-Done.ensures b t x y (codomain_at _ _ _ a b x at c.end_of-body.ensures) ta in
+    append_as _ _ _ _ _ _ w.words c.copy_words.ensures
 
 pub returns-in-NoRoom : goal.returns-in-NoRoom
 returns-in-NoRoom c a b t x y at ta =
-    inr (omega (arith, c.split-at-mut-out.ensures.front-len, c.in-NoRoom.ensures b t x y (codomain_at _ _ _ a b x at c.end-of-body.ensures) ta))
+    inr (omega (arith, c.split_at_mut-out.ensures.front_len, c.in-NoRoom.ensures b t x y (codomain_at _ _ _ a b x at c.end_of-body.ensures) ta))
 
 pub returns-in-NoStack : goal.returns-in-NoStack
 returns-in-NoStack c a b t x y at ta =
-    inr (omega (arith, c.split-at-mut-out.ensures.back_len, c.in-NoStack.ensures b t x y (codomain_at _ _ _ a b x at c.end-of-body.ensures) ta))
+    inr (omega (arith, c.split_at_mut-out.ensures.back_len, c.in-NoStack.ensures b t x y (codomain_at _ _ _ a b x at c.end_of-body.ensures) ta))

@@ -3,8 +3,8 @@ use Rattle.theory.specs.Environment.{assumed}
 use Rattle.kernel.proofs.Checks.{task, axiom_type, task_given, task_begins, axiom_checks}
 use Rattle.kernel.proofs.check.check_axiom.Goals as goal
 
-pub check-type-requires : goal.check-type-requires
-check-type-requires c =
+pub check_type-requires : goal.check_type-requires
+check_type-requires c =
     let d = c.requires in
     let p = axiom_type d.fits.core in
     record {
@@ -17,4 +17,4 @@ check-type-requires c =
 pub returns : goal.returns
 returns c e a x at f =
     let p = axiom_type f.core in
-    axiom_checks e a c.args.most (length c.check-type.new.heap) c.args.declared x c.check-type.result (c.check-type.ensures (task e (assumed a) c.args.most a c.args.declared x) (task_given p f _ _ _) (task_begins p f _ _ _ at) refl)
+    axiom_checks e a c.args.most (length c.check_type.new.heap) c.args.declared x c.check_type.result (c.check_type.ensures (task e (assumed a) c.args.most a c.args.declared x) (task_given p f _ _ _) (task_begins p f _ _ _ at) refl)

@@ -18,8 +18,8 @@ infer-requires c =
       steps = refl;
     }
 
-pub same-type-requires : goal.same-type-requires
-same-type-requires c =
+pub same_type-requires : goal.same_type-requires
+same_type-requires c =
     let d = c.requires.definition in
     let b = definition_body d.fits.core.0 in
     let k = task d.env (defined d.body d.type) c.args.most d.body c.args.body d.body_rest in
@@ -51,17 +51,17 @@ returns-in-Different c e t a x y i at bt f q =
     let (v, h, s, l) = c.in-Found.ensures (task e (defined t a) c.args.most t c.args.body y) (task_given b f _ _ _) (task_begins b f _ _ _ bt) refl in
     body_differs f q h (c.in-Different.ensures e v a x f.stored s at)
 
-pub returns-in-Spent-same-type : goal.returns-in-Spent-same-type
-returns-in-Spent-same-type c e t a x y i at bt f q =
+pub returns-in-Spent-same_type : goal.returns-in-Spent-same_type
+returns-in-Spent-same_type c e t a x y i at bt f q =
     let b = definition_body f.core.0 in
     let (v, h, s, l) = c.in-Found.ensures (task e (defined t a) c.args.most t c.args.body y) (task_given b f _ _ _) (task_begins b f _ _ _ bt) refl in
-    body_spent f q h _ (c.in-Spent-same-type.ensures e v a x f.stored s at)
+    body_spent f q h _ (c.in-Spent-same_type.ensures e v a x f.stored s at)
 
-pub returns-in-NoRoom-same-type : goal.returns-in-NoRoom-same-type
-returns-in-NoRoom-same-type c e t a x y i at bt f q =
+pub returns-in-NoRoom-same_type : goal.returns-in-NoRoom-same_type
+returns-in-NoRoom-same_type c e t a x y i at bt f q =
     let b = definition_body f.core.0 in
     let (v, h, s, l) = c.in-Found.ensures (task e (defined t a) c.args.most t c.args.body y) (task_given b f _ _ _) (task_begins b f _ _ _ bt) refl in
-    body_full f q h _ _ _ _ _ (omega arith) (omega (arith, f.stack_room)) (omega (arith, s.ends)) (c.in-NoRoom-same-type.ensures e v a x f.stored s at)
+    body_full f q h _ _ _ _ _ (omega arith) (omega (arith, f.stack_room)) (omega (arith, s.ends)) (c.in-NoRoom-same_type.ensures e v a x f.stored s at)
 
 pub returns-in-Refused : goal.returns-in-Refused
 returns-in-Refused c e t a x y i at bt f q (j, r, u) =

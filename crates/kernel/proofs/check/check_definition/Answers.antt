@@ -3,8 +3,8 @@ use Rattle.theory.specs.Environment.{defined}
 use Rattle.kernel.proofs.Checks.{task, definition_type, task_given, task_begins, checkable_later}
 use Rattle.kernel.proofs.check.check_definition.Goals as goal
 
-pub check-type-requires : goal.check-type-requires
-check-type-requires c =
+pub check_type-requires : goal.check_type-requires
+check_type-requires c =
     let d = c.requires in
     let p = definition_type d.fits.core.1 in
     record {
@@ -14,8 +14,8 @@ check-type-requires c =
       steps = refl;
     }
 
-pub check-body-requires : goal.check-body-requires
-check-body-requires c =
+pub check_body-requires : goal.check_body-requires
+check_body-requires c =
     let d = c.requires in
     let p = definition_type d.fits.core.1 in
     let (i, s) = c.in-Holds.ensures (task d.env (defined d.body d.type) c.args.most d.type c.args.declared d.type_rest) (task_given p d.fits _ _ _) (task_begins p d.fits _ _ _ d.type_stands) refl in
@@ -38,7 +38,7 @@ pub returns-in-Holds : goal.returns-in-Holds
 returns-in-Holds c e t a x y at bt f =
     let p = definition_type f.core.1 in
     let (i, s) = c.in-Holds.ensures (task e (defined t a) c.args.most a c.args.declared x) (task_given p f _ _ _) (task_begins p f _ _ _ at) refl in
-    c.check-body.ensures e t a x y i at bt (checkable_later f (omega arith) (omega arith) (omega arith) (omega arith)) s
+    c.check_body.ensures e t a x y i at bt (checkable_later f (omega arith) (omega arith) (omega arith) (omega arith)) s
 
 pub returns-in-Refused : goal.returns-in-Refused
 returns-in-Refused c e t a x y at bt f (i, s, q) =

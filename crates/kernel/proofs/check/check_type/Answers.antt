@@ -6,8 +6,8 @@ use Rattle.kernel.proofs.Backs.{type_scoped, closed_env, type_spent, type_full}
 use Rattle.kernel.proofs.Checks.{not_sorted}
 use Rattle.kernel.proofs.check.check_type.Goals as goal
 
-pub to-level-requires : goal.to-level-requires
-to-level-requires c =
+pub to_level-requires : goal.to_level-requires
+to_level-requires c =
     let k = c.requires.task in
     let n = c.requires.given in
     let (x, h, s, l) = c.in-Found.ensures k n c.requires.begins c.requires.steps in
@@ -35,13 +35,13 @@ returns-in-Other c k n b e =
     let (x, h, s, l) = c.in-Found.ensures k n b e in
     not_sorted {k = k} n.sensible h (c.in-Other.ensures k.env x n.stored s)
 
-pub returns-in-Spent-to-level : goal.returns-in-Spent-to-level
-returns-in-Spent-to-level c k n b e =
+pub returns-in-Spent-to_level : goal.returns-in-Spent-to_level
+returns-in-Spent-to_level c k n b e =
     let (x, h, s, l) = c.in-Found.ensures k n b e in
-    type_spent {k = k} z_end n.sensible h (tr (λ (m : ℕ). Overspent k.env m x) (sym e) (c.in-Spent-to-level.ensures k.env x n.stored s))
+    type_spent {k = k} z_end n.sensible h (tr (λ (m : ℕ). Overspent k.env m x) (sym e) (c.in-Spent-to_level.ensures k.env x n.stored s))
 
-pub returns-in-NoRoom-to-level : goal.returns-in-NoRoom-to-level
-returns-in-NoRoom-to-level c k n b e =
+pub returns-in-NoRoom-to_level : goal.returns-in-NoRoom-to_level
+returns-in-NoRoom-to_level c k n b e =
     let (x, h, s, l) = c.in-Found.ensures k n b e in
     type_full {k = k} z_end (length c.infer.new.heap) _ 0 (length c.infer.new.stack) n.sensible h refl (omega arith) (omega (arith, n.stack_room))
-    (tr (λ (m : ℕ). Overfull k.env m (length c.infer.new.heap) 0 (length c.infer.new.stack) x) (sym e) (c.in-NoRoom-to-level.ensures k.env x n.stored s))
+    (tr (λ (m : ℕ). Overfull k.env m (length c.infer.new.heap) 0 (length c.infer.new.stack) x) (sym e) (c.in-NoRoom-to_level.ensures k.env x n.stored s))

@@ -6,8 +6,8 @@ use Rattle.kernel.proofs.Agreeing.{stands_at}
 use Rattle.kernel.proofs.Checks.{agrees_copied, not_copied}
 use Rattle.kernel.proofs.check.same_type.Goals as goal
 
-pub copy-term-requires : goal.copy-term-requires
-copy-term-requires c =
+pub copy_term-requires : goal.copy_term-requires
+copy_term-requires c =
     let p = c.requires in
     record { stands = record { term = p.right; rest = p.rest; at = p.right_at }; order = (stands_within _ _ _ _ p.left_at).1 }
 

@@ -7,14 +7,14 @@ use Rattle.kernel.proofs.Backs.{behind_ready, type_spent, type_full, top_frame, 
 use Rattle.kernel.proofs.Domains.{lam_sorted, lam_unsorted}
 use Rattle.kernel.proofs.domain.back_lam.Goals as goal
 
-pub to-level-requires : goal.to-level-requires
-to-level-requires c = record { ready = behind_ready c.requires.can.can.given c.requires.can.can.behind }
+pub to_level-requires : goal.to_level-requires
+to_level-requires c = record { ready = behind_ready c.requires.can.can.given c.requires.can.can.behind }
 
-pub number-at-place-requires : goal.number-at-place-requires
-number-at-place-requires c = omega (arith, top_frame c.requires.can.can.behind.way c.requires.can.can.behind.kept c.requires.tagged.below)
+pub number_at-place-requires : goal.number_at-place-requires
+number_at-place-requires c = omega (arith, top_frame c.requires.can.can.behind.way c.requires.can.can.behind.kept c.requires.tagged.below)
 
-pub push-number-names-requires : goal.push-number-names-requires
-push-number-names-requires c =
+pub push_number-names-requires : goal.push_number-names-requires
+push_number-names-requires c =
     record { low = name_room c.requires.can.can.behind.kept; within = omega (arith, c.requires.can.can.behind.kept.names_end) }
 
 pub returns-in-Sort : goal.returns-in-Sort
@@ -24,7 +24,7 @@ returns-in-Sort c =
       turned = λ terms k n b e.
           let (w, v) = c.in-Sort.ensures k.env b.type n.stored b.stands in
           lam_sorted b.way (top_view b.way b.kept c.requires.tagged) b.kept b.at b.has (tr (λ m. Worked k.env is_sort m b.type (sort c.in-Sort.field-0)) (sym e) w) v
-          c.number-at-place.ensures c.push-number-names.ensures (omega arith) c.requires.tagged.below;
+          c.number_at-place.ensures c.push_number-names.ensures (omega arith) c.requires.tagged.below;
     }
 
 pub returns-in-Other : goal.returns-in-Other

@@ -8,18 +8,18 @@ use Rattle.kernel.proofs.function.back_fun.Goals as goal
 pub reduce-requires : goal.reduce-requires
 reduce-requires c = record { ready = behind_ready c.requires.can.back.can.given c.requires.can.back.can.behind; order = omega arith }
 
-pub push-argument-free-requires : goal.push-argument-free-requires
-push-argument-free-requires c =
+pub push_argument-free-requires : goal.push_argument-free-requires
+push_argument-free-requires c =
     let b = c.requires.can.back.can.behind in
     record { room = omega (arith, frame-room b.kept); within = top_frame b.way b.kept c.requires.tagged.below }
 
 pub returns-in-Reached : goal.returns-in-Reached
 returns-in-Reached c =
     record {
-      falls = λ t. omega (arith, c.requires.tagged.below, c.push-argument-free.ensures.grows);
+      falls = λ t. omega (arith, c.requires.tagged.below, c.push_argument-free.ensures.grows);
       turned = λ terms context k n b e.
           let (u, f, p, q, a) = c.in-Reached.ensures k.env b.type n.stored.at b.stands in
-          fun_reached b.way (top_view b.way b.kept c.requires.tagged) (pi_view u f.is) b.kept b.at b.has f (omega (arith, p, q, e)) (omega (arith, p)) a c.push-argument-free.ensures (omega arith)
+          fun_reached b.way (top_view b.way b.kept c.requires.tagged) (pi_view u f.is) b.kept b.at b.has f (omega (arith, p, q, e)) (omega (arith, p)) a c.push_argument-free.ensures (omega arith)
           (top_frame b.way b.kept c.requires.tagged.below);
     }
 
@@ -47,7 +47,7 @@ returns-in-NoRoom c =
       falls = λ t. omega (arith, c.requires.tagged.below);
       turned = λ terms context k n b e.
           let (u, m, p, q, r) = c.in-NoRoom.ensures k.env b.type n.stored.at b.stands in
-          type_full b.way _ _ _ _ n.sensible b.has b.kept.heap_top (omega arith) n.stack_room (record { term = u; steps = m; within = omega (arith, p, e); reaches = q; large = elim r [ inl x ↦ inl (omega (arith, x)) | inr w ↦ inr (elim w [ inl y ↦ omega (arith, y, c.split-at-mut-scratch.ensures.front-len) | inr z ↦ omega (arith, z, c.split-at-mut-scratch.ensures.back_len) ]) ] });
+          type_full b.way _ _ _ _ n.sensible b.has b.kept.heap_top (omega arith) n.stack_room (record { term = u; steps = m; within = omega (arith, p, e); reaches = q; large = elim r [ inl x ↦ inl (omega (arith, x)) | inr w ↦ inr (elim w [ inl y ↦ omega (arith, y, c.split_at_mut-scratch.ensures.front_len) | inr z ↦ omega (arith, z, c.split_at_mut-scratch.ensures.back_len) ]) ] });
     }
 
 pub returns-in-NotYet : goal.returns-in-NotYet

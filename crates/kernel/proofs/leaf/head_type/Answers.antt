@@ -5,9 +5,9 @@ use Rattle.kernel.proofs.leaf.head_type.Goals as goal
 pub returns-in-Axiom : goal.returns-in-Axiom
 returns-in-Axiom c e stack at =
     let (a, is, s) = c.in-Axiom.ensures e at in
-    head_leaf _ _ _ stack e c.args.i (assumed a) c.stored-type.result is (c.stored-type.ensures a s.rest stack s.at)
+    head_leaf _ _ _ stack e c.args.i (assumed a) c.stored_type.result is (c.stored_type.ensures a s.rest stack s.at)
 
 pub returns-in-Definition : goal.returns-in-Definition
 returns-in-Definition c e stack at =
     let (t, a, is, s, _) = c.in-Definition.ensures e at in
-    head_leaf _ _ _ stack e c.args.i (defined t a) c.stored-type-in-Definition.result is (c.stored-type-in-Definition.ensures a s.rest stack s.at)
+    head_leaf _ _ _ stack e c.args.i (defined t a) c.stored_type-in-Definition.result is (c.stored_type-in-Definition.ensures a s.rest stack s.at)

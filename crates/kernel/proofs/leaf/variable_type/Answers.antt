@@ -11,7 +11,7 @@ returns-then-context-names c g at e = ap (map_option (lift 0 _)) (get_none g c.a
 pub lift-requires : goal.lift-requires
 lift-requires c =
     let k = c.requires.context in
-    let f = found c.args.terms.now c.args.context.now c.args.names c.args.index.0 c.number-at-place.result k.types k.at (omega (arith, c.if-context-names.false, k.ends)) c.number-at-place.ensures in
+    let f = found c.args.terms.now c.args.context.now c.args.names c.args.index.0 c.number_at-place.result k.types k.at (omega (arith, c.if-context-names.false, k.ends)) c.number_at-place.ensures in
     record {
       stands = record { term = f.term; rest = f.rest; at = f.at; small = small_more f.term _ _ (k.small _ _ f.is) (omega (arith, c.if-context-names.false, k.ends, k.short)) };
       order = c.requires.order;
@@ -20,15 +20,15 @@ lift-requires c =
 
 pub returns-in-Done : goal.returns-in-Done
 returns-in-Done c g at e =
-    let f = found c.args.terms.now c.args.context.now c.args.names c.args.index.0 c.number-at-place.result g at (omega (arith, c.if-context-names.false, e)) c.number-at-place.ensures in
+    let f = found c.args.terms.now c.args.context.now c.args.names c.args.index.0 c.number_at-place.result g at (omega (arith, c.if-context-names.false, e)) c.number_at-place.ensures in
     (lift 0 (c.args.index.0 + 1) f.term, lifted g c.args.index.0 f.is, c.in-Done.ensures f.term f.rest f.at)
 
 pub returns-in-NoRoom : goal.returns-in-NoRoom
 returns-in-NoRoom c g at e =
-    let f = found c.args.terms.now c.args.context.now c.args.names c.args.index.0 c.number-at-place.result g at (omega (arith, c.if-context-names.false, e)) c.number-at-place.ensures in
+    let f = found c.args.terms.now c.args.context.now c.args.names c.args.index.0 c.number_at-place.result g at (omega (arith, c.if-context-names.false, e)) c.number_at-place.ensures in
     (lift 0 (c.args.index.0 + 1) f.term, lifted g c.args.index.0 f.is, inl (c.in-NoRoom.ensures f.term f.rest f.at))
 
 pub returns-in-NoStack : goal.returns-in-NoStack
 returns-in-NoStack c g at e =
-    let f = found c.args.terms.now c.args.context.now c.args.names c.args.index.0 c.number-at-place.result g at (omega (arith, c.if-context-names.false, e)) c.number-at-place.ensures in
+    let f = found c.args.terms.now c.args.context.now c.args.names c.args.index.0 c.number_at-place.result g at (omega (arith, c.if-context-names.false, e)) c.number_at-place.ensures in
     (lift 0 (c.args.index.0 + 1) f.term, lifted g c.args.index.0 f.is, inr (c.in-NoStack.ensures f.term f.rest f.at))
