@@ -80,29 +80,30 @@ plain_next (d_data x h ps l cs) i st = absurd (let z : ⊥ = omega arith in z)
 pub next : {t tree table : List ℕ} {done rest : List Decl} {d : Decl} {gs : List Global} {e : Env} → Judged t done (d ∷ rest) gs e → GlobalsAt tree table gs → Next gs d
 next {done = done} {rest = rest} {d = d} {gs = gs} j g =
     let w = decl_next done rest d j.reads.said in
-    let st = stage_next done rest d 1 j.in_stage in
+    let early : stage (done ++ (d ∷ rest)) < 1 = omega (arith, j.in_stage) in
+    let st = stage_next done rest d 1 early in
     let p = plain_next d w.is st in
     record {
       basic = p.0;
       shown = p.1;
       plain = decl_plain gs (bare g) d p.0;
-      core = λ c x. entry_core (checks_core j.checks (stage_front done (d ∷ rest) 1 j.in_stage)) (bare g) w.is st x;
+      core = λ c x. entry_core (checks_core j.checks (stage_front done (d ∷ rest) 1 early)) (bare g) w.is st x;
       nodes = λ c x. entry_nodes (bare g) x p.0;
     }
 
 -- A definition's entry and an axiom's, put behind the environment.
-pub entered_definition : {index store index' store' : List ℕ} {count used b : ℕ} {o : Option ℕ} {c : Entry} → BodyAt (used + 3) o c → o ≡ Some b
+pub entered_definition : (index store index' store' : List ℕ) (count used b : ℕ) (o : Option ℕ) (c : Entry) → BodyAt (used + 3) o c → o ≡ Some b
     → ((t a : Term) → b ≡ used + 3 + 3 * size a → Extends index store count used index' store' (defined t a) (put a (put t []))) → Extends index store count used index' store' c (put_entry c)
-entered_definition {b = b} (with_body {b = d} {t = t} {a = a} p) q f = f t a (same_body q p)
+entered_definition index store index' store' count used b _ _ (with_body {b = d} {t = t} {a = a} p) q f = f t a (same_body (used + 3 + 3 * size a) q p)
   where
-    same_body : Some d ≡ Some b → d ≡ _ → b ≡ _
-    same_body e p = cc
-entered_definition no_body q f = absurd (let z : ◌≡◌ {A = ℕ} 0 1 = cc in (let f : ⊥ = omega arith in f))
+    same_body : (k : ℕ) → Some d ≡ Some b → d ≡ k → b ≡ k
+    same_body k e p = cc
+entered_definition index store index' store' count used b _ _ no_body q f = absurd (let z : ◌≡◌ {A = ℕ} 0 1 = cc in (let f : ⊥ = omega arith in f))
 
-pub entered_axiom : {index store index' store' : List ℕ} {count used : ℕ} {o : Option ℕ} {c : Entry} → BodyAt (used + 3) o c → o ≡ None
+pub entered_axiom : (index store index' store' : List ℕ) (count used : ℕ) (o : Option ℕ) (c : Entry) → BodyAt (used + 3) o c → o ≡ None
     → ((a : Term) → Extends index store count used index' store' (assumed a) (put a [])) → Extends index store count used index' store' c (put_entry c)
-entered_axiom (with_body p) q f = absurd (let z : ◌≡◌ {A = ℕ} 0 1 = cc in (let f : ⊥ = omega arith in f))
-entered_axiom (no_body {a = a}) q f = f a
+entered_axiom index store index' store' count used _ _ (with_body p) q f = absurd (let z : ◌≡◌ {A = ℕ} 0 1 = cc in (let f : ⊥ = omega arith in f))
+entered_axiom index store index' store' count used _ _ (no_body {a = a}) q f = f a
 
 -- The environment of the core has no data types.
 core_entry : {gs : List Global} {d : Decl} {c : Entry} → ElabDecl gs d c → decl_stage d < 1 → (k : DataType) → entry_data c ≡ some k → ⊥
@@ -120,41 +121,3 @@ checks_plain (checks_more {ds = ds} {e = e} {d = d} {c = c} h a f) st i k p =
 entry_long : (c : Entry) {o : Option ℕ} {start : ℕ} → BodyAt start o c → length (put_entry c) ≡ 3 * entry_size c
 entry_long c (with_body {t = t} {a = a} p) = omega (arith, put-length a (put t []), put-length t [])
 entry_long c (no_body {a = a}) = omega (arith, put-length a [])
-
-terms_at : {before after : List ℕ} {start end : ℕ} {o : Option ℕ} {c : Entry} → start ≤ length before → Appends before start (put_entry c) after end → BodyAt start o c → TermsAt after start o c
-terms_at {before} {after} {start} {end} l w (with_body {t = t} {a = a} p) = definition_at (record { stands = ? }) (record { stands = ? })
-terms_at {before} {after} {start} {end} l w (no_body {a = a}) = axiom_at (record { stands = ? })
-
-module _ {t tree index table store : List ℕ} {words : ℕ} {s : Spot} {done rest : List Decl} {d : Decl} {gs : List Global} {e : Env} (j : Judging t tree index table store words s done (d ∷ rest) gs e) where
-  pub known : Next gs d
-  known = next j.judged j.globals
-
-  -- There is room to resolve it.
-  room : s.used + 3 + 3 * decl_nodes d ≤ length store
-  room = omega (arith, j.store_room, entry_few d known.basic, names_few rest, decl_length d rest, length-append (decl_names d) (names_of rest))
-
-  depth : decl_nodes d ≤ words
-  depth = omega (arith, j.words_room, entry_few d known.basic, decl_length d rest)
-
-  pub setting : (names : List ℕ) → length names ≡ words → DeclSetting tree s.place (take s.rows table) names store (s.used + 3) gs d (put_decls rest [])
-  setting names l = record { globals = j.globals; stands = j.tree_at; plain = known.basic; room = room; depth = omega (arith, depth) }
-
-  module _ {store' : List ℕ} {w : Written} {c : Entry} (x : DeclWritten tree gs d (put_decls rest []) store (s.used + 3) store' c w.end w.behind) (b : BodyAt (s.used + 3) w.body c) where
-    ends : w.end ≡ s.used + 3 + 3 * entry_size c
-    ends = omega (arith, x.writes.ends, entry_long c b)
-
-    old_kept : take s.used store' ≡ take s.used store
-    old_kept = append_keeps store store' (s.used + 3) w.end s.used (put_entry c) (omega arith) (omega (arith, room)) x.writes
-
-    stored_still : EnvAt (take (2 * s.count) index) (take s.used store') e
-    stored_still = tr (λ (ws : List ℕ). EnvAt (take (2 * s.count) index) ws e) (sym old_kept) j.stored
-
-    pub entering : Entering (take (2 * s.count) index) store' (s.used + 3) w.body ((w.end - (s.used + 3)) / 3) e c
-    entering = record {
-      wf = checks_wf done gs e j.judged.checks;
-      stored = record { at = env_longer (take (2 * s.count) index) store' s.used e stored_still; plain = checks_plain j.judged.checks (stage_front done (d ∷ rest) 1 j.judged.in_stage) };
-      terms_at = terms_at (omega (arith, room)) x.writes b;
-      core = known.core c x.elab;
-      nodes_are = omega (arith, ends);
-      few = ?;
-    }

@@ -42,8 +42,8 @@ pub fn check(text: &[u8], most: u64, work: &mut [u32]) -> Checked
     }
     let (out, rest) = work.split_at_mut(4 * text.len());
     let (names, _) = rest.split_at_mut(3 * text.len());
-    let Ok(parsed) = parse(text, out, names) else {
-        return Checked::NoText;
-    };
-    Checked::NotYet(parsed.stage + 1)
+    match parse(text, out, names) {
+        Ok(parsed) => Checked::NotYet(parsed.stage),
+        Err(_) => Checked::NoText,
+    }
 }

@@ -11,7 +11,7 @@ ghost use Rattle.judge.specs.Judging.{Ordered, BodyAt, EntryWritten, Judging, Ca
 use crate::row::{Spot, Step};
 use crate::settle::settle;
 use kernel::check::Checked as Verdict;
-use reduction::declare::{declare_axiom, declare_definition};
+use reduction::declare::{enter_axiom, enter_definition};
 use resolver::declarations::{Declared, declare, resolve_declaration};
 
 // An entry written into the store: where its body begins, if it has one, and where it ends; and where the tree goes on.
@@ -59,53 +59,7 @@ fn enter(index: &mut [u32], count: usize, store: &mut [u32], used: usize, body: 
     ensures { (c : theory.Entry) → BodyAt (used + 3) body c → Extends index.old store.old count used index.new store.new c (put_entry c) }
 {
     match body {
-        Some(place) => declare_definition(index, count, store, used, place),
-        None => declare_axiom(index, count, store, used),
+        Some(place) => enter_definition(index, count, store, used, place),
+        None => enter_axiom(index, count, store, used),
     }
-}
-
-// The next declaration. Its entry is written behind the store, three words from its end on, and stays there if it checks.
-pub fn judge_next(
-    tree: &[u32],
-    index: &mut [u32],
-    table: &mut [u32],
-    store: &mut [u32],
-    names: &mut [u32],
-    work: &mut [u32],
-    spot: Spot,
-    most: u64,
-) -> Step
-    requires { CanJudge tree.now index.old table.old store.old (length names.old) spot }
-    ensures { (t : List ℕ) (done : List Decl) (d : Decl) (rest : List Decl) (gs : List Global) (e : Env)
-        → Judging t tree.now index.old table.old store.old (length names.old) spot done (d ∷ rest) gs e
-        → Steps t tree.now index.new table.new store.new (length names.new) most (length work.old) done d rest gs e result }
-{
-    let start = spot.used + 3;
-    let rows = spot.rows;
-    let Some(entry) = resolve_next(tree, spot.place, &table[..rows], names, store, start) else {
-        return Step::Refused;
-    };
-    let entries = 2 * spot.count;
-    match settle(
-        &index[..entries],
-        store,
-        start,
-        entry.body,
-        (entry.end - start) / 3,
-        work,
-        most,
-    ) {
-        Verdict::Holds => {}
-        Verdict::Refused => return Step::Refused,
-        Verdict::Spent => return Step::Spent,
-        Verdict::NoRoom => return Step::NoRoom,
-    }
-    enter(index, spot.count, store, spot.used, entry.body);
-    let more = declare(tree, spot.place, table, rows, spot.count as u32);
-    Step::Holds(Spot {
-        place: entry.behind,
-        count: spot.count + 1,
-        rows: more,
-        used: entry.end,
-    })
 }

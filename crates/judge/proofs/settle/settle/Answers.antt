@@ -6,8 +6,8 @@ use Rattle.judge.proofs.settle.settle.Goals as goal
 pub returns-then-work-nodes : goal.returns-then-work-nodes
 returns-then-work-nodes c e d n = entry_lacks n.terms_at e _ _ (omega (arith, n.nodes_are, c.if-work-nodes.true))
 
-pub check-definition-requires : goal.check-definition-requires
-check-definition-requires c =
+pub check_definition-requires : goal.check_definition-requires
+check_definition-requires c =
     let n = c.requires.entering in
     let v = as_definition n.terms_at _ c.in-Some.is in
     record {
@@ -18,12 +18,12 @@ check-definition-requires c =
       body_rest = v.body_rest;
       type_stands = v.type_at;
       body_stands = v.body_at;
-      fits = checkable (defined v.body v.type) c.split-at-mut-context.result.0.now c.split-at-mut-frames.result.0.now c.split-at-mut-heap.result.0.now c.split-at-mut-heap.result.1.now n v.is
+      fits = checkable (defined v.body v.type) c.split_at_mut-context.result.0.now c.split_at_mut-frames.result.0.now c.split_at_mut-heap.result.0.now c.split_at_mut-heap.result.1.now n v.is
           (omega arith) (omega arith) (omega arith);
     }
 
-pub check-axiom-requires : goal.check-axiom-requires
-check-axiom-requires c =
+pub check_axiom-requires : goal.check_axiom-requires
+check_axiom-requires c =
     let n = c.requires.entering in
     let v = as_axiom n.terms_at c.in-None.is in
     record {
@@ -31,22 +31,22 @@ check-axiom-requires c =
       type = v.type;
       rest = v.rest;
       stands = v.type_at;
-      fits = checkable (assumed v.type) c.split-at-mut-context.result.0.now c.split-at-mut-frames.result.0.now c.split-at-mut-heap.result.0.now c.split-at-mut-heap.result.1.now n v.is
+      fits = checkable (assumed v.type) c.split_at_mut-context.result.0.now c.split_at_mut-frames.result.0.now c.split_at_mut-heap.result.0.now c.split_at_mut-heap.result.1.now n v.is
           (omega arith) (omega arith) (omega arith);
     }
 
 pub returns-in-Some : goal.returns-in-Some
 returns-in-Some c e d n =
     let v = as_definition n.terms_at _ c.in-Some.is in
-    let f = checkable (defined v.body v.type) c.split-at-mut-context.result.0.now c.split-at-mut-frames.result.0.now c.split-at-mut-heap.result.0.now c.split-at-mut-heap.result.1.now n v.is
+    let f = checkable (defined v.body v.type) c.split_at_mut-context.result.0.now c.split_at_mut-frames.result.0.now c.split_at_mut-heap.result.0.now c.split_at_mut-heap.result.1.now n v.is
     (omega arith) (omega arith) (omega arith) in
-    settled e d c.args.most (length c.args.work.now) (length c.check-definition.new.heap) c.check-definition.result
-    (omega (arith, n.nodes_are)) v.is (c.check-definition.ensures e v.body v.type _ _ v.type_at v.body_at f)
+    settled e d c.args.most (length c.args.work.now) (length c.check_definition.new.heap) c.check_definition.result
+    (omega (arith, n.nodes_are)) v.is (c.check_definition.ensures e v.body v.type _ _ v.type_at v.body_at f)
 
 pub returns-in-None : goal.returns-in-None
 returns-in-None c e d n =
     let v = as_axiom n.terms_at c.in-None.is in
-    let f = checkable (assumed v.type) c.split-at-mut-context.result.0.now c.split-at-mut-frames.result.0.now c.split-at-mut-heap.result.0.now c.split-at-mut-heap.result.1.now n v.is
+    let f = checkable (assumed v.type) c.split_at_mut-context.result.0.now c.split_at_mut-frames.result.0.now c.split_at_mut-heap.result.0.now c.split_at_mut-heap.result.1.now n v.is
     (omega arith) (omega arith) (omega arith) in
-    settled e d c.args.most (length c.args.work.now) (length c.check-axiom.new.heap) c.check-axiom.result
-    (omega (arith, n.nodes_are)) v.is (c.check-axiom.ensures e v.type _ v.type_at f)
+    settled e d c.args.most (length c.args.work.now) (length c.check_axiom.new.heap) c.check_axiom.result
+    (omega (arith, n.nodes_are)) v.is (c.check_axiom.ensures e v.type _ v.type_at f)
