@@ -1,0 +1,178 @@
+// All the texts that are named, judged one after another in the same buffers.
+ghost use Rattle.std.specs.Prelude.{◌≡◌, IfOk, vec_len, IsUtf8, OnOk};
+ghost use Rattle.checker.specs.Arguments.{role_of};
+ghost use Rattle.checker.specs.Tallies.{add_up, counted};
+ghost use Rattle.checker.specs.declared.tally.Outcome.{Outcome};
+ghost use Rattle.checker.specs.declared.tally.Outcome.TheVariants.{Unread};
+
+use crate::files::{complain, judge_file};
+use crate::names::Name;
+use crate::options::{MOST_WORDS, NAME_BYTES, Options, Role, TEXT_BYTES, number};
+use crate::tally::{Outcome, Tally};
+use std::alloc::{AllocError, Global};
+use std::env::FillError;
+use std::fmt::Display;
+use std::io;
+use std::io::{BufReader, Read};
+use std::rt::Env;
+use std::str::from_utf8;
+
+// The buffers, and what came of the texts so far.
+#[derive(Drop)]
+pub struct Judging {
+    options: Options,
+    text: [u8; TEXT_BYTES],
+    work: Vec<u32>,
+    tally: Tally,
+}
+
+impl Judging {
+    // The buffers for all texts, however many there are.
+    pub fn new(heap: Global, options: Options) -> Result<Judging, AllocError>
+        ensures { IfOk result (λ j. (j.options ≡ options) × (vec_len j.work ≡ options.words)) }
+    {
+        let work = vec![in heap; 0; options.words as usize]?;
+        Ok(Judging {
+            options,
+            text: [0; TEXT_BYTES],
+            work,
+            tally: Tally::new(),
+        })
+    }
+
+    // What came of the texts.
+    pub fn tally(&self) -> Tally
+        ensures { result ≡ self.now.tally }
+    {
+        self.tally
+    }
+
+    // An option is wrong.
+    fn fault<D: Display + Drop>(&mut self, rt: &HostRuntime, word: &str, what: D) -> io::Result<()>
+        ensures { self.new.tally.faults ≡ add_up self.old.tally.faults 1 }
+    {
+        self.tally.count_fault();
+        eprintln!(rt; "check: {word}: {what}")
+    }
+
+    // A text cannot be read.
+    fn unread(&mut self, rt: &HostRuntime, name: &[u8], what: &str) -> io::Result<()>
+        ensures { self.new.tally.counts ≡ counted Unread self.old.tally.counts }
+    {
+        self.tally.count(Outcome::Unread);
+        complain(rt, name, what)
+    }
+
+    // Judges a text by its name.
+    pub fn named(&mut self, rt: &HostRuntime, name: &str) -> io::Result<()>
+        ensures { OnOk result ((o : Outcome) × (self.new.tally.counts ≡ counted o self.old.tally.counts)) }
+    {
+        if self.options.list && name == "-" {
+            self.unread(rt, name.as_bytes(), "standard input has names of files")?;
+            return Ok(());
+        }
+        let steps = self.options.steps;
+        let outcome = judge_file(rt, name, steps, &mut self.text, self.work.as_mut_slice())?;
+        self.tally.count(outcome);
+        Ok(())
+    }
+
+    // Looks at an argument behind one with the role `before`, judges the text that it names, and says its role.
+    fn argument(&mut self, rt: &HostRuntime, before: Role, word: &str) -> io::Result<Role>
+        ensures { IfOk result (λ o. o ≡ role_of before word.now) }
+    {
+        let role = Role::of(before, word);
+        match role {
+            Role::StepsNumber => {
+                if number(word, u64::MAX).is_none() {
+                    self.fault(rt, word, "not a number of steps")?;
+                }
+            }
+            Role::WordsNumber => {
+                if number(word, MOST_WORDS).is_none() {
+                    self.fault(
+                        rt,
+                        word,
+                        format_args!("not a number of words up to {MOST_WORDS}"),
+                    )?;
+                }
+            }
+            Role::Unknown => self.fault(rt, word, "unknown option")?,
+            Role::File => self.named(rt, word)?,
+            _ => {}
+        }
+        Ok(role)
+    }
+
+    // The same for bytes that need not be text.
+    fn argument_bytes(&mut self, rt: &HostRuntime, before: Role, bytes: &[u8]) -> io::Result<Role>
+        ensures { IfOk result (λ o. (IsUtf8 bytes.now → o ≡ role_of before bytes.now)) }
+    {
+        match from_utf8(bytes) {
+            Ok(word) => {
+                let role = self.argument(rt, before, word)?;
+                Ok(role)
+            }
+            Err(_) => {
+                self.unread(rt, bytes, "the name is not UTF-8")?;
+                Ok(Role::File)
+            }
+        }
+    }
+
+    // Judges the texts that the arguments name.
+    pub fn arguments(&mut self, rt: &HostRuntime) -> io::Result<()> {
+        let mut before = Role::File;
+        let mut buf = [0u8; NAME_BYTES];
+        for i in 1..usize::MAX {
+            match rt.arg(i, &mut buf) {
+                Ok(n) => before = self.argument_bytes(rt, before, &buf[0..n])?,
+                Err(FillError::TooLong) => {
+                    self.tally.count(Outcome::Unread);
+                    eprintln!(rt;
+                        "check: argument {i}: the name is longer than {NAME_BYTES} bytes"
+                    )?;
+                    before = Role::File;
+                }
+                Err(FillError::NotPresent) => break,
+            }
+        }
+        match before {
+            Role::Steps => self.fault(rt, "--steps", "a number is missing"),
+            Role::Words => self.fault(rt, "--words", "a number is missing"),
+            _ => Ok(()),
+        }
+    }
+
+    // Judges the text that a line of standard input names.
+    fn line(&mut self, rt: &HostRuntime, name: &Name) -> io::Result<()> {
+        let bytes = name.bytes();
+        if name.is_long() {
+            return self.unread(rt, bytes, "the name is longer than these 4096 bytes");
+        }
+        match from_utf8(bytes) {
+            Ok("") => Ok(()),
+            Ok(word) => self.named(rt, word),
+            Err(_) => self.unread(rt, bytes, "the name is not UTF-8"),
+        }
+    }
+
+    // Judges the texts that standard input names, one a line.
+    pub fn listed(&mut self, rt: &HostRuntime) -> io::Result<()> {
+        let mut name = Name::new();
+        for byte in BufReader::new(rt.alloc(), rt.stdin())?.bytes() {
+            match byte {
+                Ok(b'\n') => {
+                    self.line(rt, &name)?;
+                    name.clear();
+                }
+                Ok(b) => name.push(b),
+                Err(e) => {
+                    self.tally.count(Outcome::Unread);
+                    return eprintln!(rt; "check: -: {e}");
+                }
+            }
+        }
+        self.line(rt, &name)
+    }
+}

@@ -1,0 +1,184 @@
+// The arguments: what they ask for.
+ghost use Rattle.std.specs.Prelude.{◌≡◌};
+ghost use Rattle.checker.specs.Arguments.{dashed, word_role, role_of, ReadsUpTo, SetTo, Sets};
+
+use crate::answer::as_text;
+use std::env::FillError;
+use std::rt::Env;
+
+pub const VERSION: &str = "check 0.1.0";
+
+pub const HELP: &str = "usage: check [--steps N] [--words N] [--list] [FILE...]
+
+Judges texts of declarations, and writes a line about each: what came of it, with the line of the
+declaration that does not hold, or of the place where the text stops being one.
+- or no FILE is standard input.
+
+  --steps N  a term may take N reduction steps (1000000)
+  --words N  N words of workspace are lent, at most as many as fit in 4 MiB (as many)
+  --list     standard input has the names of further files, one a line
+  --help     writes this
+  --version  writes the version
+
+The status is 0 if all declarations of all texts hold, and else 1.
+";
+
+// A longer name is not looked at.
+pub const NAME_BYTES: usize = 4096;
+
+// A text has at most 32,768 bytes; one byte more tells that it is longer.
+pub const TEXT_BYTES: usize = 32769;
+
+// What is read ahead of a list of names.
+const LIST_BYTES: usize = 8192;
+
+// The words that fit in 4 MiB beside these.
+pub const MOST_WORDS: u64 = (4 * 1024 * 1024 - TEXT_BYTES - NAME_BYTES - LIST_BYTES) as u64 / 4;
+
+// How to judge.
+#[derive(Clone, Copy)]
+pub struct Options {
+    // The steps and words that are allowed.
+    pub steps: u64,
+    pub words: u64,
+    // Standard input has names of files.
+    pub list: bool,
+    // How many files the arguments name.
+    pub files: u64,
+}
+
+// What the arguments ask for.
+#[derive(Clone, Copy)]
+pub enum Asked {
+    Help,
+    Version,
+    Judge(Options),
+}
+
+// What an argument is.
+#[derive(Clone, Copy)]
+pub enum Role {
+    Steps,
+    Words,
+    StepsNumber,
+    WordsNumber,
+    List,
+    Help,
+    Version,
+    Unknown,
+    File,
+}
+
+// Does the word begin with a dash?
+fn is_dashed(word: &[u8]) -> bool
+    ensures { result ≡ dashed word.now }
+{
+    match word {
+        [b'-', ..] => true,
+        _ => false,
+    }
+}
+
+impl Role {
+    // What an argument is, behind one with the role `before`.
+    pub fn of(before: Role, word: &str) -> Role
+        ensures { result ≡ role_of before word.now }
+    {
+        match before {
+            Role::Steps => Role::StepsNumber,
+            Role::Words => Role::WordsNumber,
+            _ => Role::of_word(word),
+        }
+    }
+
+    // What an argument is that is no option's number.
+    fn of_word(word: &str) -> Role
+        ensures { result ≡ word_role word.now }
+    {
+        match word {
+            "--steps" => Role::Steps,
+            "--words" => Role::Words,
+            "--list" => Role::List,
+            "--help" => Role::Help,
+            "--version" => Role::Version,
+            "-" => Role::File,
+            _ => if is_dashed(word.as_bytes()) {
+                Role::Unknown
+            } else {
+                Role::File
+            },
+        }
+    }
+}
+
+// The number that a word writes, if it is at most `most`.
+pub fn number(word: &str, most: u64) -> Option<u64>
+    ensures { ReadsUpTo word.now most result }
+{
+    match word.parse::<u64>() {
+        Ok(n) => if n <= most { Some(n) } else { None },
+        Err(_) => None,
+    }
+}
+
+// The number that a word writes, if it is at most `most`, and else `before`.
+fn setting(word: &str, most: u64, before: u64) -> u64
+    ensures { SetTo word.now most before result }
+{
+    match number(word, most) {
+        Some(n) => n,
+        None => before,
+    }
+}
+
+// The options with an argument taken in.
+fn with(options: Options, role: Role, word: &str) -> Options
+    ensures { Sets role word.now options result }
+{
+    match role {
+        Role::StepsNumber => Options {
+            steps: setting(word, u64::MAX, options.steps),
+            ..options
+        },
+        Role::WordsNumber => Options {
+            words: setting(word, MOST_WORDS, options.words),
+            ..options
+        },
+        Role::List => Options {
+            list: true,
+            ..options
+        },
+        Role::File => Options {
+            files: options.files.saturating_add(1),
+            ..options
+        },
+        _ => options,
+    }
+}
+
+// What all the arguments ask for.
+pub fn read_arguments(env: &impl Env) -> Asked {
+    let mut options = Options {
+        steps: 1_000_000,
+        words: MOST_WORDS,
+        list: false,
+        files: 0,
+    };
+    let mut before = Role::File;
+    let mut buf = [0u8; NAME_BYTES];
+    for i in 1..usize::MAX {
+        let len = match env.arg(i, &mut buf) {
+            Ok(len) => len,
+            Err(FillError::TooLong) => 0,
+            Err(FillError::NotPresent) => break,
+        };
+        let word = as_text(&buf[0..len]);
+        before = Role::of(before, word);
+        match before {
+            Role::Help => return Asked::Help,
+            Role::Version => return Asked::Version,
+            _ => options = with(options, before, word),
+        }
+    }
+    Asked::Judge(options)
+}
