@@ -1,11 +1,11 @@
 -- What the reader of all declarations does, one declaration at a time; and what the words and names of all declarations are.
-use Rattle.std.proofs.Common.{◌≡◌, ℕ, zero, suc, ◌+◌, ◌<◌, ◌≤◌, max, true, List, [], ◌∷◌, ◌++◌, length, is_err, Ok, Err, Result, sym, refl, ap, ◌∙◌, subst as tr, append_assoc, append-nil, arith}
+use Rattle.std.proofs.Common.{◌≡◌, ℕ, suc, ◌≤◌, max, true, List, [], ◌∷◌, ◌++◌, length, is_err, Ok, Err, Result, sym, refl, ap, ◌∙◌, arith}
 use mathlib.Core.Option.{Option, some, none, some-injective}
 use Rattle.std.proofs.lemmas.Bool.{false≢true}
 use Rattle.syntax.specs.Surface.{Name, Decl, d_def, d_axiom, d_data, stage, decl_stage, names_of, decl_names}
 use Rattle.syntax.specs.Tokens.{tokens}
-use Rattle.syntax.specs.Tree.{put_name, put_expr, put_params, put_cons, put_decl, put_decls, decls_words}
-use Rattle.syntax.specs.Reader.{bind, then, read_decl, read_decls}
+use Rattle.syntax.specs.Tree.{put_name, put_expr, put_params, put_cons, put_decl, decls_words}
+use Rattle.syntax.specs.Reader.{bind, read_decl, read_decls}
 use Rattle.syntax.specs.Parsing.{FindsNone}
 use Rattle.syntax.specs.Declaring.{read_all, decl_words, DeclaresAll}
 use Rattle.syntax.specs.declared.problem.Stop.{Stop}

@@ -1,7 +1,6 @@
 -- Words written one behind the other: nothing, one word, and one piece behind another.
 use Rattle.std.proofs.Common.{◌≡◌, ℕ, zero, suc, ◌+◌, ◌-◌, ◌<◌, ◌≤◌, min, List, [], ◌∷◌, ◌++◌, length, take, drop, set, replicate, sym, refl, ap, ◌∙◌, ap₂, append_assoc, append-nil, arith, length-append, length-drop, length-take}
-use lib.ListN.{length-replicate}
-use Rattle.std.proofs.lemmas.List.{take_more, take_more_set, take_at, drop_at, take-take, take-append-le, drop-append-le}
+use Rattle.std.proofs.lemmas.List.{take_more_set, take_at, drop_at, take-take, take-append-le, drop-append-le}
 use Rattle.std.proofs.lemmas.Slice.{between_is, take-put_mid}
 use borrow.Rule.Slice.PartMut.{put_mid}
 use Rattle.syntax.specs.Writing.{Appends}

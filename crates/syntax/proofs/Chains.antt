@@ -2,7 +2,7 @@
 -- words and in the stage. Then the term is whole, or there is none.
 use Rattle.std.proofs.Common.{◌≡◌, ℕ, zero, suc, ◌+◌, ◌*◌, ◌<◌, ◌≤◌, max, List, [], ◌∷◌, ◌++◌, length, sym, refl, ap, ◌∙◌, ap₂, append_assoc, append-nil, arith}
 use mathlib.Core.Option.{Option, some, none}
-use Rattle.syntax.specs.Surface.{Name, Expr, e_pi, e_lam, e_have, expr_stage}
+use Rattle.syntax.specs.Surface.{Name, Expr, expr_stage}
 use Rattle.syntax.specs.Tokens.{tokens}
 use Rattle.syntax.specs.Tree.{put_name, put_expr}
 use Rattle.syntax.specs.Reader.{Readers, readers}

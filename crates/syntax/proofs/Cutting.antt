@@ -1,12 +1,12 @@
 -- How the tokens of bytes begin: blanks and comments bring none, a word goes on to the first byte that is no letter,
 -- and a sign or another byte is a token by itself.
-use Rattle.std.proofs.Common.{◌≡◌, ℕ, zero, suc, ◌+◌, ◌<◌, ◌≤◌, Bool, true, false, cond, not, ◌&&◌, ◌||◌, eqb, List, [], ◌∷◌, ◌++◌, length, get_or, take, drop, sym, refl, ap, ◌∙◌, add-one, arith, drop_of_length-le, drop-cons}
+use Rattle.std.proofs.Common.{◌≡◌, ℕ, zero, suc, ◌+◌, ◌<◌, ◌≤◌, Bool, true, false, not, ◌&&◌, ◌||◌, eqb, List, [], ◌∷◌, ◌++◌, length, get_or, take, drop, sym, refl, ap, ◌∙◌, arith, drop_of_length-le, drop-cons}
 use Rattle.std.proofs.lemmas.List.{take_more}
 use Rattle.std.proofs.lemmas.Bool.{ne_eqb, cond-false, both_ways, and_from, and_parts}
 use Rattle.syntax.specs.Grammar.{letters}
 use Rattle.syntax.specs.Lexing.{Solid, NoLetter}
 use Rattle.syntax.specs.Surface.{Name}
-use Rattle.syntax.specs.Tokens.{Mode, Turn, between, word, sign, comment, letter, blank, begins, joins, fresh, tokens, tokens_from}
+use Rattle.syntax.specs.Tokens.{Mode, Turn, between, word, comment, letter, blank, begins, joins, fresh, tokens, tokens_from}
 
 -- Where skipping stands: in a comment, or between tokens.
 abbrev pub skipping : Bool → Mode

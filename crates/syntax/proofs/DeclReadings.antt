@@ -1,18 +1,17 @@
 -- What the readers of declarations do, step by step, in the order in which the parser tests; and the words of their parts.
-use Rattle.std.proofs.Common.{◌≡◌, ℕ, zero, suc, ◌+◌, ◌*◌, ◌<◌, ◌≤◌, max, Bool, true, false, cond, List, [], ◌∷◌, ◌++◌, length, is_err, Ok, Err, Result, sym, refl, ap, ◌∙◌, append_assoc, append-nil, arith}
+use Rattle.std.proofs.Common.{◌≡◌, ℕ, suc, ◌+◌, ◌≤◌, max, true, List, [], ◌∷◌, ◌++◌, length, is_err, Ok, Err, Result, sym, refl, ap, ◌∙◌, append_assoc, append-nil}
 use mathlib.Core.Option.{Option, some, none}
 use Rattle.std.proofs.lemmas.Bool.{eq-eqb, ne_eqb, cond-true, cond-false, false≢true}
 use Rattle.syntax.specs.declared.problem.Stop.{Stop}
 use Rattle.syntax.specs.declared.declarations.Progress.{Progress}
 use Rattle.syntax.specs.Tokens.{tokens}
-use Rattle.syntax.specs.Surface.{Name, Expr, Param, ConDecl, Decl, d_def, d_axiom, d_data, expr_stage, hide_stage, params_stage, cons_stage, stage, decl_stage, names_of, decl_names, con_names}
-use Rattle.syntax.specs.Tree.{put_name, put_expr, put_params, put_cons, put_decl, put_decls, decls_words}
-use Rattle.syntax.specs.Grammar.{t_lp, t_rp, t_lc, t_rc, t_colon, t_is, t_semi, k_type, k_again, k_def, k_theorem, k_axiom, k_data}
-use Rattle.syntax.specs.Reader.{option, bind, then, eat, readers, read_name, read_number, read_hide, read_params, read_cons, read_def, read_axiom, read_data, read_decl, read_decls}
-use Rattle.syntax.specs.Parsing.{expr_words}
-use Rattle.syntax.proofs.Gives.{option_is, option_not, then_is, bind_not}
-use Rattle.syntax.proofs.TermReadings.{bind_is, then_not}
-use Rattle.syntax.specs.Declaring.{Note, note_words, note_names, param_words, param_stage, params_words, con_words, cons_words, decl_words, read_param, read_con, Head, read_head, read_typed, head_words, con_name, con_stage, Declares}
+use Rattle.syntax.specs.Surface.{Name, Expr, Param, ConDecl, Decl, d_def, d_axiom, d_data, expr_stage, hide_stage, params_stage, cons_stage, con_names}
+use Rattle.syntax.specs.Tree.{put_name, put_expr, put_params, put_cons}
+use Rattle.syntax.specs.Grammar.{t_lp, t_rp, t_lc, t_rc, t_colon, t_is, t_semi, k_type, k_again}
+use Rattle.syntax.specs.Reader.{bind, then, eat, readers, read_name, read_number, read_hide, read_params, read_cons, read_def, read_axiom, read_data}
+use Rattle.syntax.proofs.Gives.{option_is, option_not, then_is}
+use Rattle.syntax.proofs.TermReadings.{then_not}
+use Rattle.syntax.specs.Declaring.{note_words, param_words, param_stage, con_words, read_param, read_con, Head, read_head, read_typed, head_words, con_name, con_stage, Declares}
 use Rattle.syntax.proofs.TreeWords.{expr_apart, expr_then, name_apart}
 use Rattle.syntax.proofs.Items.{all_words, all_level, all_names, prepend}
 

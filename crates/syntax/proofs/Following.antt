@@ -1,12 +1,11 @@
 -- How the promises of the parser's functions follow from those of the functions that they call.
-use Rattle.std.proofs.Common.{◌≡◌, ℕ, zero, suc, ◌+◌, ◌*◌, ◌<◌, ◌≤◌, true, false, cond, List, [], ◌∷◌, ◌++◌, length, is_err, Ok, Err, Result, sym, refl, ap, ◌∙◌, arith}
+use Rattle.std.proofs.Common.{◌≡◌, ℕ, ◌<◌, ◌≤◌, true, cond, List, ◌∷◌, length, is_err, Ok, Err, Result, ap, ◌∙◌, arith}
 use mathlib.Core.Option.{Option, some, none}
-use Rattle.std.proofs.lemmas.Bool.{false≢true, cond-true, cond-false}
+use Rattle.std.proofs.lemmas.Bool.{false≢true, cond-true}
 use Rattle.syntax.specs.declared.problem.Stop.{Stop}
 use Rattle.syntax.specs.Surface.{Name, e_name}
 use Rattle.syntax.specs.Grammar.{is_name, is_indexed_lem, t_dot}
-use Rattle.syntax.specs.Reader.{option, bind, then, eat, read_word, read_indexed, read_dots}
-use Rattle.syntax.specs.Tokens.{tokens}
+use Rattle.syntax.specs.Reader.{option, eat, read_word, read_indexed, read_dots}
 use Rattle.syntax.specs.Parsing.{Done, FindsNone, Follows}
 use Rattle.syntax.specs.declared.reading.Read.{Read}
 

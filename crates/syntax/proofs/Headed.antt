@@ -1,12 +1,10 @@
 -- The words that begin declarations are reserved: no term, script, parameter or constructor has one. So in a text that reads, the
 -- n-th of these words begins the n-th declaration.
-use Rattle.std.proofs.Common.{◌≡◌, ℕ, zero, suc, ◌-◌, Bool, true, false, cond, T, eqb, List, [], ◌∷◌, ◌++◌, sym, refl, ap, ◌∙◌, subst as tr, subst₂ as tr₂, append_assoc, arith}
-use mathlib.Core.Option.{some, none}
-use mathlib.Core.Option.{Option as Maybe}
-use Rattle.std.proofs.lemmas.Bool.{cond-true, cond-false, eq-eqb, ne_eqb}
+use Rattle.std.proofs.Common.{◌≡◌, ℕ, zero, suc, ◌-◌, Bool, true, false, T, eqb, List, [], ◌∷◌, ◌++◌, sym, refl, ap, ◌∙◌, subst as tr, subst₂ as tr₂, arith}
+use mathlib.Core.Option.{some}
+use Rattle.std.proofs.lemmas.Bool.{cond-true, cond-false, ne_eqb}
 use Rattle.syntax.specs.Surface.{Name, same, Expr, Param, ConDecl, Decl}
-use Rattle.syntax.specs.Tokens.{tokens}
-use Rattle.syntax.specs.Grammar.{k_def, k_theorem, k_axiom, k_data, is_name, is_indexed_lem, IsNumber, IsDots, x_one, x_two, IsExpr, x_tighter, x_fun, x_pi, x_arrow, x_app, x_name, x_at, x_full, x_sort, x_hole, x_brackets, x_by, IsScript, x_exact, x_intro, x_have, x_apply, IsArgs, x_no_args, x_arg, IsParams, x_no_params, x_param, IsCons, x_no_cons, x_con, IsHide, x_no_hide, x_hide, IsDecl, x_def, x_theorem, x_axiom, x_data, IsDecls, x_no_decls, x_decl, Reads}
+use Rattle.syntax.specs.Grammar.{k_def, k_theorem, k_axiom, k_data, is_name, is_indexed_lem, IsNumber, IsDots, x_one, x_two, IsExpr, x_tighter, x_fun, x_pi, x_arrow, x_app, x_name, x_at, x_full, x_sort, x_hole, x_brackets, x_by, IsScript, x_exact, x_intro, x_have, x_apply, IsArgs, x_no_args, x_arg, IsParams, x_no_params, x_param, IsCons, x_no_cons, x_con, IsHide, x_no_hide, x_hide, IsDecl, x_def, x_theorem, x_axiom, x_data, IsDecls, x_no_decls, x_decl}
 use Rattle.syntax.specs.Headers.{begins_decl, nth_decl, decl_name, name_at, Declared, HeadersRight}
 use Rattle.syntax.proofs.Gives.{no_some}
 use Rattle.syntax.proofs.Same.{to_true}

@@ -1,6 +1,6 @@
 -- A list that is read item by item: the items so far stand before those to come, in the reader, in the words, in the notes of
 -- declared names and in the stage. Said once for parameters, constructors and declarations.
-use Rattle.std.proofs.Common.{◌≡◌, ℕ, zero, suc, ◌+◌, ◌*◌, ◌<◌, ◌≤◌, max, List, [], ◌∷◌, ◌++◌, length, sym, refl, ap, ◌∙◌, ap₂, append_assoc, append-nil, arith, length-append}
+use Rattle.std.proofs.Common.{◌≡◌, ℕ, zero, suc, ◌+◌, ◌*◌, ◌<◌, ◌≤◌, max, List, [], ◌∷◌, ◌++◌, length, sym, refl, ap, ◌∙◌, ap₂, append_assoc, append-nil, arith}
 use mathlib.Core.Option.{Option, some, none}
 use Rattle.syntax.specs.Surface.{Name}
 use Rattle.syntax.specs.Tokens.{tokens}

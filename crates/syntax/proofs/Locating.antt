@@ -1,10 +1,10 @@
 -- Places in a text: the line of the place one byte further, and what stands where a declaration begins.
 use Rattle.std.proofs.Common.{◌≡◌, ℕ, ◌+◌, ◌-◌, ◌<◌, ◌≤◌, Bool, true, false, cond, eqb, List, [], ◌∷◌, ◌++◌, length, get_or, take, drop, sym, refl, ap, ◌∙◌, inl, inr, append_assoc, add_assoc, zero-add, arith, length-append, take-append-drop, Bor}
-use mathlib.Core.Option.{some, none}
+use mathlib.Core.Option.{some}
 use lib.Seq.{take-append_seam, drop-append_seam}
 use Rattle.std.proofs.lemmas.List.{take_more}
 use Rattle.std.proofs.lemmas.Bool.{eq-eqb, ne_eqb, cond-true, cond-false}
-use Rattle.syntax.specs.Surface.{Name, same, listed}
+use Rattle.syntax.specs.Surface.{Name, same}
 use Rattle.syntax.specs.Tokens.{tokens}
 use Rattle.syntax.specs.Grammar.{is_name, k_def, k_theorem, k_axiom}
 use Rattle.syntax.specs.Lines.{line_ends, line_of}

@@ -1,10 +1,10 @@
 -- Notes of declared names in words: where a note's name stands and where the next note does; and lists of names that are taken
 -- one by one.
-use Rattle.std.proofs.Common.{◌≡◌, ℕ, zero, suc, ◌+◌, ◌-◌, ◌<◌, ◌≤◌, Bool, true, false, not, ◌&&◌, ◌||◌, List, [], ◌∷◌, ◌++◌, length, get_or, take, drop, sym, refl, ap, ◌∙◌, arith, length-append, length-drop}
+use Rattle.std.proofs.Common.{◌≡◌, ℕ, ◌+◌, ◌<◌, ◌≤◌, Bool, true, false, not, ◌&&◌, ◌||◌, List, [], ◌∷◌, ◌++◌, length, get_or, take, drop, sym, refl, ap, ◌∙◌, arith, length-append, length-drop}
 use Rattle.std.proofs.lemmas.List.{drop-drop, get_or-drop, take_at, drop_at}
 use Rattle.std.proofs.lemmas.Bool.{or_left}
 use Rattle.syntax.specs.Surface.{Name, same, listed, once}
-use Rattle.syntax.specs.Declaring.{Note, note_words, note_names}
+use Rattle.syntax.specs.Declaring.{Note, note_words}
 
 module _ (ws : List ℕ) (at : ℕ) (n : Note) (ns : List Note) (e : drop at ws ≡ note_words (n ∷ ns)) where
   -- A note and what is behind it are within the words.

@@ -1,15 +1,13 @@
 -- A term used on arguments that are read one after the other: the arguments so far, in the readers, in the words and in the
 -- stage; and the term at the end, when the tags of the uses are put before them.
-use Rattle.std.proofs.Common.{◌≡◌, ℕ, zero, suc, ◌+◌, ◌*◌, ◌<◌, ◌≤◌, min, max, List, [], ◌∷◌, ◌++◌, length, take, drop, replicate, sym, refl, ap, ◌∙◌, ap₂, append_assoc, append-nil, arith, length-append, length-take}
+use Rattle.std.proofs.Common.{◌≡◌, ℕ, zero, suc, ◌+◌, ◌*◌, ◌<◌, ◌≤◌, max, List, [], ◌∷◌, ◌++◌, length, take, drop, replicate, sym, refl, ap, ◌∙◌, append_assoc, append-nil, arith, length-append}
 use mathlib.Core.Option.{Option, some, none}
 use lib.ListN.{length-replicate}
-use Rattle.std.proofs.lemmas.List.{drop_at}
 use Rattle.syntax.specs.Surface.{Name, Expr, e_app, expr_stage}
 use Rattle.syntax.specs.Tokens.{tokens}
-use Rattle.syntax.specs.Tree.{put_expr}
 use Rattle.syntax.specs.Reader.{Readers, readers}
 use Rattle.syntax.specs.Writing.{Appends}
-use Rattle.syntax.specs.Parsing.{Done, FindsNone, expr_words, lower}
+use Rattle.syntax.specs.Parsing.{Done, expr_words, lower}
 use Rattle.syntax.specs.declared.reading.Read.{Read}
 use Rattle.syntax.proofs.Appending.{append_none, append_to, append_then, append_as, append_before}
 use Rattle.syntax.proofs.TreeWords.{expr_then}

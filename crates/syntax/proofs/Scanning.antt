@@ -1,13 +1,11 @@
 -- Tests on the first token: names compared byte by byte, names and numbers told from other tokens.
-use Rattle.std.proofs.Common.{◌≡◌, ℕ, zero, suc, ◌+◌, ◌-◌, ◌*◌, ◌<◌, ◌≤◌, Bool, true, false, cond, not, ◌&&◌, ◌||◌, eqb, leb, List, [], ◌∷◌, ◌++◌, length, get_or, take, drop, sym, refl, ap, ◌∙◌, ap₂, add-one, arith, drop_of_length-le, drop-cons}
-use mathlib.Core.Option.{Option, some, none}
-use Rattle.std.proofs.lemmas.Bool.{ne_eqb, eq-eqb, and_from, and_parts, and_left, and_right, or_from, both_ways, cond-true, cond-false, le-leb, lt-leb, leb-true}
+use Rattle.std.proofs.Common.{◌≡◌, ℕ, zero, suc, ◌+◌, ◌-◌, ◌*◌, ◌<◌, ◌≤◌, Bool, true, false, ◌&&◌, eqb, leb, [], ◌∷◌, length, get_or, drop, refl, ap, ◌∙◌, ap₂, add-one, arith, drop_of_length-le, drop-cons}
+use mathlib.Core.Option.{none}
+use Rattle.std.proofs.lemmas.Bool.{ne_eqb, eq-eqb, and_from, and_parts, and_left, and_right, both_ways, cond-true, cond-false, le-leb, leb-true}
 use Rattle.syntax.proofs.Same.{same_is}
-use Rattle.syntax.specs.Surface.{Name, same, listed, w_eq, w_same, w_along}
-use Rattle.syntax.specs.Tokens.{letter}
-use Rattle.syntax.specs.Grammar.{is_name, is_indexed_lem, letters, digits, digit_first, reserved}
+use Rattle.syntax.specs.Surface.{Name, same, w_eq, w_same, w_along}
+use Rattle.syntax.specs.Grammar.{is_name, is_indexed_lem, digits}
 use Rattle.syntax.specs.Reader.{number_of}
-use Rattle.syntax.specs.Lexing.{NoLetter}
 
 -- Names of different lengths are different.
 pub same_lengths : (x y : Name) → (length x ≡ length y → ⊥) → same x y ≡ false

@@ -1,12 +1,12 @@
 -- What the readers of terms and scripts do, step by step, in the order in which the parser tests.
-use Rattle.std.proofs.Common.{◌≡◌, ℕ, zero, suc, ◌+◌, ◌*◌, ◌<◌, ◌≤◌, Bool, true, false, cond, not, T, List, [], ◌∷◌, ◌++◌, length, is_err, Ok, Err, Result, sym, refl, ap, ◌∙◌, subst as tr, arith}
+use Rattle.std.proofs.Common.{◌≡◌, ℕ, zero, suc, ◌*◌, ◌<◌, ◌≤◌, Bool, true, false, cond, List, [], ◌∷◌, length, is_err, Ok, Err, Result, sym, refl, ap, ◌∙◌, subst as tr, arith}
 use mathlib.Core.Option.{Option, some, none}
 use Rattle.std.proofs.lemmas.Bool.{false≢true}
 use Rattle.syntax.specs.Surface.{Name, same, Expr}
 use Rattle.syntax.specs.Tokens.{tokens}
 use Rattle.syntax.specs.Grammar.{t_lp, t_rp, t_semi, t_to, t_at, t_hole, k_type, k_by, k_fun}
-use Rattle.syntax.specs.Reader.{option, bind, then, eat, Readers, readers, read_term, read_script, read_atom, read_word, read_arrow, read_binder, read_exact, read_apply}
-use Rattle.syntax.specs.Parsing.{Done, FindsNone, Opened, Opens, Links, Frame, f_pi, f_lam, f_have, wrap, plug, lower, level, read_bound, read_uses, read_leaf, read_block, read_full, read_sort, expr_words}
+use Rattle.syntax.specs.Reader.{bind, then, eat, Readers, readers, read_term, read_script, read_atom, read_arrow, read_binder, read_exact, read_apply}
+use Rattle.syntax.specs.Parsing.{Done, FindsNone, Opened, Opens, Links, Frame, f_pi, wrap, plug, lower, level, read_bound, read_uses, read_leaf, read_block, expr_words}
 use Rattle.syntax.specs.Surface.{expr_stage, Param}
 use Rattle.syntax.specs.declared.problem.Stop.{Stop}
 use Rattle.syntax.specs.declared.reading.Read.{Read}

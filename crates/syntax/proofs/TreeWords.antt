@@ -1,7 +1,7 @@
 -- The words of a tree, taken apart: what follows stands behind the words of the tree alone.
 use Rattle.std.proofs.Common.{◌≡◌, ℕ, List, [], ◌∷◌, ◌++◌, length, sym, refl, ap, ◌∙◌, append_assoc, append-nil}
-use Rattle.syntax.specs.Surface.{Name, Expr, e_name, e_at, e_full, e_sort, e_pi, e_lam, e_app, e_hole, e_by, e_have, Param, ConDecl, Decl, d_def, d_axiom, d_data}
-use Rattle.syntax.specs.Tree.{put_name, put_numbers, put_expr, put_params, put_cons, put_decl, put_decls}
+use Rattle.syntax.specs.Surface.{Name, Expr, e_name, e_at, e_full, e_sort, e_pi, e_lam, e_app, e_hole, e_by, e_have}
+use Rattle.syntax.specs.Tree.{put_name, put_numbers, put_expr}
 
 -- A tag and a name.
 pub named : (t : ℕ) (x : Name) → t ∷ (length x ∷ x) ≡ t ∷ put_name x []

@@ -1,11 +1,11 @@
 -- From the reader of declarations to the text: what it finds within the limits is the text's reading, and where it finds nothing,
 -- or a limit does not hold, there is none.
-use Rattle.std.proofs.Common.{◌≡◌, ℕ, suc, ◌<◌, ◌≤◌, Bool, true, false, ◌&&◌, T, leb, List, length, is_err, Ok, Err, Result, sym, refl, ap, ◌∙◌, subst as tr, arith}
-use mathlib.Core.Option.{some, none}
-use Rattle.std.proofs.lemmas.Bool.{false≢true, true≢false, le-leb, lt-leb, and_from, and_left, and_right}
-use Rattle.syntax.specs.Surface.{Name, Decl, names_of, once}
+use Rattle.std.proofs.Common.{◌≡◌, ℕ, suc, ◌<◌, ◌≤◌, Bool, true, false, ◌&&◌, T, leb, List, length, is_err, Ok, Err, Result, sym, ap, ◌∙◌, subst as tr, arith}
+use mathlib.Core.Option.{some}
+use Rattle.std.proofs.lemmas.Bool.{false≢true, le-leb, lt-leb, and_from, and_left, and_right}
+use Rattle.syntax.specs.Surface.{Decl, names_of, once}
 use Rattle.syntax.specs.Tokens.{tokens}
-use Rattle.syntax.specs.Grammar.{shallow, IsDecls, Reads}
+use Rattle.syntax.specs.Grammar.{shallow, Reads}
 use Rattle.syntax.specs.Reader.{read_decls}
 use Rattle.syntax.specs.Parsing.{FindsNone}
 use Rattle.syntax.specs.Declaring.{Parses}
@@ -13,7 +13,7 @@ use Rattle.syntax.specs.declared.problem.Stop.{Stop}
 use Rattle.syntax.specs.declared.parse.Parsed.{Parsed}
 use Rattle.syntax.proofs.ReaderSound.{decls_sound}
 use Rattle.syntax.proofs.DeclsFull.{decls_full}
-use Rattle.syntax.proofs.OneReading.{one_reading, no_reading}
+use Rattle.syntax.proofs.OneReading.{no_reading}
 
 from_true : (b : Bool) → b ≡ true → T b
 from_true b p = tr T (sym p) tt

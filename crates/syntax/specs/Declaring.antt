@@ -1,17 +1,15 @@
 -- What the parser's functions promise that read declarations: each follows a reader, writes what is read, and notes the names
 -- that are declared.
-use Rattle.std.specs.Prelude.{◌≡◌, ℕ, ◌+◌, ◌*◌, ◌<◌, ◌≤◌, max, Bool, true, false, T, leb, List, [], ◌∷◌, ◌++◌, length, take, Some, None, Ok, Err, Option, Result}
+use Rattle.std.specs.Prelude.{◌≡◌, ℕ, ◌+◌, ◌*◌, ◌<◌, ◌≤◌, true, false, List, [], ◌∷◌, ◌++◌, length, take, Some, None, Ok, Err, Option, Result}
 use Rattle.std.proofs.Math.Option.{some, none, Option as Maybe}
-use Rattle.syntax.specs.Surface.{Name, Expr, Param, ConDecl, Decl, expr_stage, hide_stage, params_stage, cons_stage, decl_stage, stage, con_names, decl_names, names_of, once, listed}
+use Rattle.syntax.specs.Surface.{Name, Expr, Param, ConDecl, Decl, expr_stage, hide_stage, params_stage, stage, names_of, once, listed}
 use Rattle.syntax.specs.Tokens.{tokens}
 use Rattle.syntax.specs.Grammar.{t_colon, t_rp, t_semi, k_again, shallow, Reads}
-use Rattle.syntax.specs.Tree.{put_name, put_expr, put_params, put_cons, put_decl, put_decls, decls_words}
-use Rattle.syntax.specs.Reader.{bind, then, eat, readers, read_name, read_number, read_hide, read_params, read_cons, read_decls}
-use Rattle.syntax.specs.Lexing.{Behind}
-use Rattle.syntax.specs.Parsing.{Follows, FindsNone, expr_words}
+use Rattle.syntax.specs.Tree.{put_name, put_params, put_cons, put_decl, decls_words}
+use Rattle.syntax.specs.Reader.{bind, then, eat, readers, read_name, read_number, read_hide, read_params, read_decls}
+use Rattle.syntax.specs.Parsing.{FindsNone, expr_words}
 use Rattle.syntax.specs.Writing.{Appends}
 use Rattle.syntax.specs.declared.problem.Stop.{Stop}
-use Rattle.syntax.specs.declared.reading.Read.{Read}
 use Rattle.syntax.specs.declared.scan.Number.{Number}
 use Rattle.syntax.specs.declared.declarations.Progress.{Progress}
 use Rattle.syntax.specs.declared.declarations.Whole.{Whole}

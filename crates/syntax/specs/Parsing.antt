@@ -1,12 +1,12 @@
 -- What the parser's functions promise: each follows a reader, and writes what is read.
-use Rattle.std.specs.Prelude.{◌≡◌, ℕ, zero, suc, ◌+◌, ◌*◌, ◌<◌, ◌≤◌, max, cond, List, [], ◌∷◌, ◌++◌, length, Ok, Err, Result}
+use Rattle.std.specs.Prelude.{◌≡◌, ℕ, zero, suc, ◌+◌, ◌*◌, ◌<◌, ◌≤◌, max, List, [], ◌∷◌, length, Ok, Err, Result}
 use Rattle.std.proofs.Math.Option.{some, none, Option as Maybe}
 use Rattle.std.specs.Borrow.{Bor}
-use Rattle.syntax.specs.Surface.{Name, Expr, e_at, e_full, e_sort, e_pi, e_lam, e_have, e_hole, e_by, expr_stage}
+use Rattle.syntax.specs.Surface.{Name, Expr, e_full, e_sort, e_pi, e_lam, e_have, e_hole, e_by, expr_stage}
 use Rattle.syntax.specs.Tokens.{tokens}
-use Rattle.syntax.specs.Grammar.{t_rp, t_lc, t_rc, t_dot, t_at, t_hole, k_type}
+use Rattle.syntax.specs.Grammar.{t_rp, t_lc, t_rc, t_at, t_hole, k_type}
 use Rattle.syntax.specs.Tree.{put_name, put_expr}
-use Rattle.syntax.specs.Reader.{option, bind, then, eat, read_name, read_number, read_word, read_indexed, read_dots, Readers, readers, read_atom, read_binder, read_lam}
+use Rattle.syntax.specs.Reader.{option, bind, then, eat, read_name, read_number, read_word, Readers, readers, read_atom, read_binder, read_lam}
 use Rattle.syntax.specs.Lexing.{Behind}
 use Rattle.syntax.specs.Writing.{Appends}
 use Rattle.syntax.specs.declared.problem.Stop.{Stop}

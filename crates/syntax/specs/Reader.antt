@@ -1,6 +1,6 @@
 -- The grammar as functions from tokens: the value that is read, with the tokens behind it, or none. That these functions find
 -- exactly what the grammar says is proved; the parser's contracts cite them.
-use Rattle.std.specs.Prelude.{ℕ, zero, suc, Bool, true, false, cond, ◌&&◌, ◌||◌, List, [], ◌∷◌, length, nat_le}
+use Rattle.std.specs.Prelude.{ℕ, zero, suc, Bool, false, cond, ◌&&◌, ◌||◌, List, [], ◌∷◌, length, nat_le}
 use Rattle.std.proofs.Math.Option.{Option, some, none}
 use Rattle.syntax.specs.Surface.{Name, same, Expr, e_name, e_at, e_full, e_sort, e_pi, e_lam, e_app, e_hole, e_by, e_have, Param, ConDecl, Decl, d_def, d_axiom, d_data}
 use Rattle.syntax.specs.Grammar.{k_fun, k_type, k_def, k_theorem, k_axiom, k_data, k_hide, k_again, k_by, k_intro, k_exact, k_have, k_apply, t_lp, t_rp, t_lc, t_rc, t_semi, t_colon, t_dot, t_at, t_hole, t_is, t_so, t_to, is_name, is_indexed_lem, digits}

@@ -1,6 +1,6 @@
 -- From bytes to tokens: words of letters, digits and _ that do not begin with _; the signs := => ->; every other byte by itself;
 -- # to the end of the line is a comment.
-use Rattle.std.specs.Prelude.{ℕ, Bool, true, false, cond, not, ◌&&◌, ◌||◌, List, [], ◌∷◌, ◌++◌, ◌==◌, nat_le}
+use Rattle.std.specs.Prelude.{ℕ, Bool, cond, not, ◌&&◌, ◌||◌, List, [], ◌∷◌, ◌++◌, ◌==◌, nat_le}
 use Rattle.syntax.specs.Surface.{Name}
 
 -- A byte that words are made of: a letter, a digit or _.

@@ -3,7 +3,7 @@ use Rattle.std.specs.Prelude.{◌≡◌, Bool, true, false, ◌&&◌, cond, List
 use Rattle.std.proofs.Math.Option.{Option, some, none}
 use Rattle.std.proofs.Math.ListN.{get_elem?}
 use Rattle.theory.specs.Terms.{Head, h_def, h_data, h_con, h_rec, h_eq, h_refl, h_along, Term, var, const, sort, pi, lam, app, option, subst, apps}
-use Rattle.theory.specs.Environment.{Constructor, DataType, Entry, Env, entry_body, data_at}
+use Rattle.theory.specs.Environment.{DataType, Env, entry_body, data_at}
 
 -- On options: the second where the first is none; a function of what is there; a function that may give none.
 abbrev pub or_else : {A : Type 0} → Option A → Option A → Option A

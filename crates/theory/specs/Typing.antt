@@ -1,9 +1,9 @@
 -- Typing, well-formed environments, and inferred types.
 use Rattle.std.specs.Prelude.{◌≡◌, Bool, true, false, List, [], ◌∷◌, ◌++◌, ℕ, suc, max, ◌≤◌, ◌<◌}
-use Rattle.std.proofs.Math.Option.{Option, some, none}
+use Rattle.std.proofs.Math.Option.{some}
 use Rattle.std.proofs.Math.ListN.{get_elem?}
 use Rattle.theory.specs.Terms.{Head, Term, var, const, sort, pi, lam, app, lift, subst}
-use Rattle.theory.specs.Environment.{Constructor, DataType, Entry, defined, assumed, inductive, Env, head_type_lem}
+use Rattle.theory.specs.Environment.{Constructor, Entry, defined, assumed, inductive, Env, head_type_lem}
 use Rattle.theory.specs.Reduction.{Conv, normal_steps}
 
 -- HasType e g t a: in environment e and context g (types, the innermost first, each in the context behind it), t is of type a.

@@ -1,7 +1,6 @@
-use Rattle.std.proofs.Common.{◌≡◌, ℕ, List, [], ◌∷◌, length, refl, ap, append_assoc, arith}
+use Rattle.std.proofs.Common.{ℕ, List, [], ◌∷◌, length, refl, ap, append_assoc, arith}
 use Rattle.syntax.specs.Surface.{e_at}
 use Rattle.syntax.proofs.Appending.{append_as, append_then}
-use Rattle.syntax.proofs.TreeWords.{named}
 use Rattle.syntax.proofs.atoms.dots.Goals as goal
 
 pub returns-in_default : goal.returns-in_default

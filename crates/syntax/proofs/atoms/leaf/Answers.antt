@@ -1,4 +1,4 @@
-use Rattle.std.proofs.Common.{◌≡◌, refl, ap, ◌∙◌, arith}
+use Rattle.std.proofs.Common.{refl, arith}
 use Rattle.syntax.specs.Surface.{e_hole}
 use Rattle.syntax.proofs.Following.{done_by, fails}
 use Rattle.syntax.proofs.atoms.leaf.Goals as goal

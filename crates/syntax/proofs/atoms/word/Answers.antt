@@ -1,10 +1,8 @@
-use Rattle.std.proofs.Common.{◌≡◌, ◌∷◌, sym, refl, ap, ◌∙◌, arith}
+use Rattle.std.proofs.Common.{sym, refl, ◌∙◌, arith}
 use Rattle.syntax.specs.Surface.{e_name}
-use Rattle.syntax.specs.Reader.{read_word, read_dots}
-use Rattle.syntax.specs.Tokens.{tokens}
 use Rattle.syntax.proofs.Appending.{append_as}
 use Rattle.syntax.proofs.TreeWords.{named}
-use Rattle.syntax.proofs.Following.{done_by, none_by, fails, word_dots, word_name}
+use Rattle.syntax.proofs.Following.{done_by, fails, word_dots, word_name}
 use Rattle.syntax.proofs.atoms.word.Goals as goal
 
 pub returns-in_err-read : goal.returns-in_err-read

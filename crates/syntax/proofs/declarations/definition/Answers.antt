@@ -1,10 +1,8 @@
-use Rattle.std.proofs.Common.{◌≡◌, ℕ, suc, max, List, [], ◌∷◌, ◌++◌, length, sym, refl, ap, ◌∙◌, ap₂, append_assoc, arith}
-use Rattle.syntax.specs.Surface.{d_def, d_axiom, d_data}
+use Rattle.std.proofs.Common.{ℕ, max, List, ◌∷◌, sym, refl, ap, ◌∙◌, ap₂, append_assoc, arith}
+use Rattle.syntax.specs.Surface.{d_def}
 use Rattle.syntax.specs.Tokens.{tokens}
-use Rattle.syntax.specs.Tree.{put_name, put_expr, put_params, put_cons}
+use Rattle.syntax.specs.Tree.{put_name}
 use Rattle.syntax.specs.Declaring.{head_words, read_head}
-use Rattle.syntax.specs.Reader.{readers}
-use Rattle.syntax.specs.Parsing.{expr_words}
 use Rattle.syntax.proofs.Appending.{append_then, append_as}
 use Rattle.syntax.proofs.TreeWords.{expr_then}
 use Rattle.syntax.proofs.Gives.{then_is, bind_not}

@@ -1,4 +1,4 @@
-use Rattle.std.proofs.Common.{refl, ◌∙◌, arith}
+use Rattle.std.proofs.Common.{arith}
 use Rattle.syntax.specs.Reader.{readers}
 use Rattle.syntax.proofs.Gives.{then_is}
 use Rattle.syntax.proofs.TermReadings.{bind_is, bound_param}

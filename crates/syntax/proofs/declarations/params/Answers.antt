@@ -1,8 +1,8 @@
-use Rattle.std.proofs.Common.{◌≡◌, ℕ, suc, List, [], ◌∷◌, sym, refl, ap, ◌∙◌, arith}
+use Rattle.std.proofs.Common.{[], refl, ◌∙◌, arith}
 use Rattle.syntax.specs.Tokens.{tokens}
 use Rattle.syntax.specs.Reader.{read_params}
 use Rattle.syntax.specs.Declaring.{param_words, param_stage}
-use Rattle.syntax.proofs.Gives.{option_is, option_not}
+use Rattle.syntax.proofs.Gives.{option_not}
 use Rattle.syntax.proofs.Appending.{append_none, append_to, append_then, append_as}
 use Rattle.syntax.proofs.Following.{fails}
 use Rattle.syntax.proofs.Items.{items_start, items_more, items_none, items_end}

@@ -1,6 +1,4 @@
-use Rattle.std.proofs.Common.{◌≡◌, ℕ, zero, suc, ◌<◌, Bool, true, false, get_or, sym, ◌∙◌, arith}
-use Rattle.std.proofs.lemmas.Bool.{both_ways}
-use Rattle.syntax.specs.Tokens.{letter}
+use Rattle.std.proofs.Common.{sym, arith}
 use Rattle.syntax.proofs.Cutting.{word_on, word_stop, word_all, stopped_later, letters_on}
 use Rattle.syntax.proofs.lexer.word_len.Goals as goal
 

@@ -1,4 +1,4 @@
-use Rattle.std.proofs.Common.{◌≡◌, ℕ, ◌<◌, List, [], ◌∷◌, length, drop, sym, refl, ap, ◌∙◌, arith}
+use Rattle.std.proofs.Common.{◌≡◌, ℕ, ◌<◌, List, ◌∷◌, length, drop, ap, ◌∙◌, arith}
 use Rattle.syntax.specs.Surface.{once}
 use Rattle.syntax.specs.Declaring.{Note, note_words, note_names}
 use Rattle.syntax.proofs.Notes.{note_length, note_next, first_note, no_note, once_not, once_rest}

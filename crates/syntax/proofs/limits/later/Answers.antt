@@ -1,4 +1,4 @@
-use Rattle.std.proofs.Common.{◌≡◌, ℕ, ◌<◌, List, [], ◌∷◌, length, take, drop, sym, refl, ap, ◌∙◌, ap₂, arith, rules}
+use Rattle.std.proofs.Common.{◌≡◌, ℕ, ◌<◌, List, ◌∷◌, length, drop, sym, refl, ap, ◌∙◌, ap₂, arith}
 use Rattle.syntax.specs.Declaring.{Note, note_words, note_names}
 use Rattle.syntax.specs.Surface.{same, listed}
 use Rattle.syntax.proofs.Notes.{note_length, note_next, first_note, no_note, listed_first, listed_rest}

@@ -1,4 +1,4 @@
-use Rattle.std.proofs.Common.{◌≡◌, ℕ, ◌+◌, ◌-◌, List, length, take, drop, sym, ap, ◌∙◌, arith, rules}
+use Rattle.std.proofs.Common.{arith, rules}
 use Rattle.syntax.proofs.Notes.{note_length, note_size, note_name}
 use Rattle.syntax.proofs.limits.name_at.Goals as goal
 

@@ -1,4 +1,4 @@
-use Rattle.std.proofs.Common.{◌≡◌, Bool, sym, ap, ◌∙◌, arith}
+use Rattle.std.proofs.Common.{sym, ap, ◌∙◌, arith}
 use Rattle.syntax.specs.Lexing.{lexeme}
 use Rattle.syntax.specs.Headers.{begins_decl}
 use Rattle.syntax.proofs.Locating.{go_past, go_counted, word_fits, header_found, sign_begins-none}

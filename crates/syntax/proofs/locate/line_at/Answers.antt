@@ -1,4 +1,4 @@
-use Rattle.std.proofs.Common.{◌≡◌, ℕ, ◌+◌, ◌-◌, ◌≤◌, List, length, take, sym, ap, ◌∙◌, arith, take_all}
+use Rattle.std.proofs.Common.{◌≡◌, ℕ, ◌+◌, ◌-◌, List, take, ap, ◌∙◌, arith, take_all}
 use Rattle.syntax.specs.Lines.{line_of, line_ends}
 use Rattle.syntax.proofs.Locating.{line_on_end, line_on_other}
 use Rattle.syntax.proofs.locate.line_at.Goals as goal

@@ -1,4 +1,4 @@
-use Rattle.std.proofs.Common.{◌≡◌, ℕ, suc, List, [], ◌∷◌, ◌++◌, length, take, sym, refl, ap, ◌∙◌, append-nil, arith, length-append}
+use Rattle.std.proofs.Common.{[], ◌∷◌, refl, ◌∙◌, arith, length-append}
 use Rattle.syntax.specs.Tokens.{tokens}
 use Rattle.syntax.specs.Surface.{decl_names, decl_stage}
 use Rattle.syntax.specs.Declaring.{read_all, decl_words}

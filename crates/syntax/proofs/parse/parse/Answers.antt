@@ -1,4 +1,4 @@
-use Rattle.std.proofs.Common.{◌≡◌, suc, length, sym, refl, ap, ◌∙◌, arith}
+use Rattle.std.proofs.Common.{suc, length, sym, ap, ◌∙◌, arith}
 use Rattle.syntax.specs.Tokens.{tokens}
 use Rattle.syntax.specs.Surface.{once}
 use Rattle.syntax.proofs.WholeText.{text_reads, none_said, declared_twice, parse_fail}

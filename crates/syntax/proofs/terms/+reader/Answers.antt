@@ -1,15 +1,15 @@
 -- The parser of terms and scripts follows the readers.
-use Rattle.std.proofs.Common.{◌≡◌, ℕ, suc, max, List, [], ◌∷◌, ◌++◌, length, sym, refl, ap, ◌∙◌, ap₂, append_assoc, arith}
+use Rattle.std.proofs.Common.{ℕ, suc, max, List, [], ◌∷◌, ◌++◌, length, sym, refl, ap, ◌∙◌, ap₂, append_assoc, arith}
 use Rattle.std.proofs.lemmas.Bool.{cond-true, cond-false}
-use Rattle.syntax.specs.Surface.{e_by, e_app}
+use Rattle.syntax.specs.Surface.{e_by}
 use Rattle.syntax.specs.Tokens.{tokens}
 use Rattle.syntax.specs.Reader.{readers, read_term, read_script, read_atom, read_arrow, read_exact, read_apply}
-use Rattle.syntax.specs.Parsing.{f_pi, f_lam, f_have, lower, level, read_uses, read_leaf, read_block, term_reader, script_reader}
+use Rattle.syntax.specs.Parsing.{f_pi, f_lam, f_have, lower, level, read_uses, term_reader, script_reader}
 use Rattle.syntax.proofs.Appending.{append_then, append_as, append_before}
 use Rattle.syntax.proofs.TreeWords.{expr_then}
 use Rattle.syntax.proofs.Gives.{then_is, option_is, option_not, bind_not}
-use Rattle.syntax.proofs.Following.{fails, done_by}
-use Rattle.syntax.proofs.TermReadings.{bind_is, then_not, term_at, script_at, lower-none, lower-some, none-up, done_up, opened_up, links_as, none_as, links_more, links_last, apply_args, links_fail, opens_fail, bound_then, wrap-then, arrow_none, arrow_alone, arrow_to, term_arrow, atom_leaf, atom_block}
+use Rattle.syntax.proofs.Following.{fails}
+use Rattle.syntax.proofs.TermReadings.{bind_is, then_not, term_at, script_at, lower-none, lower-some, links_as, none_as, links_more, links_last, apply_args, links_fail, opens_fail, bound_then, wrap-then, arrow_none, arrow_alone, arrow_to, term_arrow, atom_leaf}
 use Rattle.syntax.proofs.Chains.{chain_start, chain_more, chain_last, chain_none}
 use Rattle.syntax.proofs.Rows.{row_start, row_more, row_none, row_end, lower_link}
 use Rattle.syntax.proofs.terms.+reader.Goals as goal

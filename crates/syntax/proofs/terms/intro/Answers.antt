@@ -1,6 +1,5 @@
-use Rattle.std.proofs.Common.{refl, ◌∙◌, arith}
+use Rattle.std.proofs.Common.{refl, arith}
 use Rattle.syntax.specs.Surface.{e_hole}
-use Rattle.syntax.specs.Reader.{readers}
 use Rattle.syntax.specs.Parsing.{f_lam}
 use Rattle.syntax.proofs.Appending.{append_then}
 use Rattle.syntax.proofs.Gives.{then_is}

@@ -1,4 +1,4 @@
-use Rattle.std.proofs.Common.{◌≡◌, ◌+◌, ◌-◌, ◌≤◌, min, length, take, drop, replicate, sym, ap, ◌∙◌, arith, length-drop, length-take, rules}
+use Rattle.std.proofs.Common.{◌-◌, ◌≤◌, length, drop, replicate, sym, arith, length-drop, length-take, rules}
 use lib.ListN.{length-replicate}
 use Rattle.syntax.proofs.Appending.{append_front}
 use Rattle.syntax.proofs.write.insert.Goals as goal
