@@ -2,8 +2,8 @@ use Rattle.std.proofs.Common.{arith, lit≤}
 use Rattle.terms.proofs.Examples.{far, far_small}
 use Rattle.terms.proofs.tests.says_no_room.Goals as goal
 
-pub copy-term-requires : goal.copy-term-requires
-copy-term-requires c = record { stands = far; order = lit≤ tt }
+pub copy_term-requires : goal.copy_term-requires
+copy_term-requires c k = record { stands = far; order = lit≤ tt }
 
 pub lift-requires : goal.lift-requires
-lift-requires c = record { stands = far_small; order = omega arith; shallow = lit≤ tt }
+lift-requires c k = record { stands = far_small; order = omega arith; shallow = lit≤ tt }
