@@ -3,7 +3,6 @@ use Rattle.std.proofs.Common.{◌≡◌, ℕ, Bool, true, false, cond, List, cod
 use Rattle.std.proofs.lemmas.Slice.Eq.{bytes_eq-Decides}
 use Rattle.std.specs.Str.{bytes_eq}
 use Rattle.checker.specs.Arguments.{dashed, word_role}
-use Rattle.checker.specs.declared.options.Role.{Role}
 use Rattle.checker.specs.declared.options.Role.TheVariants.{Unknown, File}
 
 -- Texts that are not equal are told apart.

@@ -1,5 +1,5 @@
 -- Counting what came of texts.
-use Rattle.std.specs.Prelude.{◌≡◌, ℕ, ◌+◌, ◌-◌, ◌^◌, min, Bool, true, ◌&&◌, List, [], ◌∷◌, ◌++◌, take, codes, decimal, ◌==◌, slice_index, slice_set}
+use Rattle.std.specs.Prelude.{ℕ, ◌+◌, ◌-◌, ◌^◌, min, Bool, true, ◌&&◌, List, [], ◌∷◌, ◌++◌, take, codes, decimal, ◌==◌, slice_index, slice_set}
 use Rattle.checker.specs.declared.answer.Said.{Said}
 use Rattle.checker.specs.declared.answer.Said.TheVariants as said
 use Rattle.checker.specs.declared.answer.Reason.{Reason}

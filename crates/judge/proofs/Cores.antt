@@ -1,14 +1,14 @@
 -- What declarations of the core stand for: terms of the core, with levels of at most three digits.
-use Rattle.std.proofs.Common.{◌≡◌, ℕ, zero, suc, ◌+◌, ◌-◌, ◌*◌, ◌<◌, ◌≤◌, max, Bool, true, false, cond, ◌&&◌, ◌||◌, T, leb, List, [], ◌∷◌, ◌++◌, length, sym, refl, ap, ◌∙◌, subst as tr, arith, length-append, leb-true}
-use mathlib.Core.Option.{Option, some, none}
+use Rattle.std.proofs.Common.{◌≡◌, ℕ, ◌+◌, ◌-◌, ◌*◌, ◌<◌, ◌≤◌, max, Bool, true, false, cond, ◌&&◌, ◌||◌, T, leb, List, [], ◌∷◌, ◌++◌, length, sym, refl, ap, ◌∙◌, subst as tr, arith, length-append, leb-true}
+use mathlib.Core.Option.{some}
 use Rattle.std.proofs.lemmas.List.{nil_from_length}
-use Rattle.theory.specs.Terms.{Head, Term, const, apps}
+use Rattle.theory.specs.Terms.{Term, const, apps}
 use Rattle.theory.specs.Environment.{Entry, Env}
-use Rattle.theory.proofs.Options.{none-some, some_inj, false-true, cases_bool, cond-some, and_true}
-use Rattle.syntax.specs.Surface.{Name, same, Expr, e_name, e_at, expr_stage, at_stage, hide_stage, Decl, d_def, d_axiom, d_data, decl_stage, stage, w_eq, w_same, w_along}
-use Rattle.syntax.specs.Grammar.{digits, IsNumber, IsExpr, x_tighter, x_fun, x_pi, x_arrow, x_app, x_name, x_at, x_full, x_sort, x_hole, x_brackets, x_by, IsDecl, x_def, x_theorem, x_axiom, x_data, IsDecls, x_no_decls, x_decl}
-use Rattle.elaboration.specs.Elaboration.{Global, lookup, Elab, el_local, el_global, el_full, el_at, el_sort, el_pi, el_lam, el_app, el_hole, el_by, el_have}
-use Rattle.elaboration.specs.Declarations.{ElabDecl, el_def, el_axiom, el_data, Checks, checks_end, checks_more, globals_of}
+use Rattle.theory.proofs.Options.{none-some, some_inj, cases_bool, cond-some, and_true}
+use Rattle.syntax.specs.Surface.{Name, same, Expr, expr_stage, at_stage, hide_stage, Decl, d_def, d_axiom, d_data, decl_stage, stage, w_eq, w_same, w_along}
+use Rattle.syntax.specs.Grammar.{digits, IsNumber, IsExpr, x_tighter, x_fun, x_pi, x_arrow, x_app, x_name, x_at, x_full, x_sort, x_hole, x_brackets, x_by, IsDecl, x_def, x_theorem, x_axiom, x_data, IsDecls, x_decl}
+use Rattle.elaboration.specs.Elaboration.{Global, lookup, Elab, el_local, el_global, el_sort, el_pi, el_lam, el_app}
+use Rattle.elaboration.specs.Declarations.{ElabDecl, el_def, el_axiom, Checks, checks_end, checks_more, globals_of}
 use Rattle.kernel.specs.Machine.{CoreHead, Core}
 use Rattle.kernel.specs.Checking.{CoreEntry}
 use Rattle.resolver.proofs.Resolution.{NoneHidden}

@@ -1,40 +1,29 @@
 -- The next declaration: what is known of it where judging stands, and where judging stands behind it.
-use Rattle.std.proofs.Common.{◌≡◌, ℕ, ◌+◌, ◌-◌, ◌*◌, ◌/◌, ◌<◌, ◌≤◌, Bool, true, false, ◌&&◌, List, [], ◌∷◌, ◌++◌, length, take, drop, Some, None, Option, sym, refl, ap, ◌∙◌, subst as tr, arith, length-append}
-use mathlib.Core.Option.{some, none}
-use mathlib.Core.Option as M
+use Rattle.std.proofs.Common.{◌≡◌, ℕ, ◌+◌, ◌*◌, ◌<◌, true, List, [], ◌∷◌, ◌++◌, length, Some, None, Option, sym, refl, ap, ◌∙◌, arith}
+use mathlib.Core.Option.{some}
 use lib.ListN.{get_elem?}
-use Rattle.theory.specs.Terms.{Term, size, option}
-use Rattle.theory.specs.Environment.{Entry, defined, assumed, inductive, Env, DataType, data_at, entry_data}
+use Rattle.theory.specs.Terms.{Term, size}
+use Rattle.theory.specs.Environment.{Entry, defined, assumed, Env, DataType, data_at, entry_data}
 use Rattle.theory.specs.Question.{entry_size}
-use Rattle.theory.proofs.Options.{none-some, some_inj, false-true, true-false, and_true, cases_option, option-some}
+use Rattle.theory.proofs.Options.{none-some, false-true, and_true, cases_option, option-some}
 use Rattle.theory.proofs.Closed.{get_snoc}
-use Rattle.syntax.specs.Surface.{Name, Expr, e_name, e_at, e_full, e_sort, e_pi, e_lam, e_app, e_hole, e_by, e_have, Decl, d_def, d_axiom, d_data, decl_stage, stage, decl_names, names_of}
+use Rattle.syntax.specs.Surface.{Name, Expr, e_name, e_at, e_full, e_sort, e_pi, e_lam, e_app, e_hole, e_by, e_have, Decl, d_def, d_axiom, d_data, decl_stage, stage}
 use Rattle.syntax.specs.Grammar.{IsDecl}
-use Rattle.syntax.specs.Tree.{put_decl, put_decls}
 use Rattle.elaboration.specs.Elaboration.{Global, lookup, index_of, plain, Elab}
-use Rattle.elaboration.specs.Declarations.{ElabDecl, el_def, el_axiom, el_data, Admissible, Checks, checks_end, checks_more, plain_decl}
-use Rattle.elaboration.proofs.ChecksWf.{checks_wf}
-use Rattle.terms.specs.Words.{put, At}
-use Rattle.terms.specs.Writing.{Appends}
+use Rattle.elaboration.specs.Declarations.{ElabDecl, el_def, el_axiom, el_data, Checks, checks_end, checks_more, plain_decl}
+use Rattle.terms.specs.Words.{put}
 use Rattle.terms.proofs.Nodes.{put-length}
-use Rattle.terms.proofs.Appending.{append_keeps, append_stands}
-use Rattle.reduction.specs.Store.{EnvAt}
 use Rattle.reduction.specs.Lookup.{Declared as Extends}
-use Rattle.reduction.proofs.Declaring.{env_longer}
-use Rattle.kernel.specs.Environments.{PlainAt}
 use Rattle.kernel.specs.Checking.{CoreEntry}
-use Rattle.resolver.specs.Resolving.{basic, nodes, basic_decl, resolved}
-use Rattle.resolver.specs.Entries.{unhidden, decl_nodes, put_entry, DeclAt, DeclSetting, DeclWritten}
+use Rattle.resolver.specs.Resolving.{basic, nodes, basic_decl}
+use Rattle.resolver.specs.Entries.{unhidden, decl_nodes, put_entry}
 use Rattle.resolver.specs.Names.{GlobalsAt}
 use Rattle.resolver.proofs.Resolution.{NoneHidden, complete}
-use Rattle.resolver.proofs.Plain.{resolved-size, forced}
+use Rattle.resolver.proofs.Plain.{resolved-size}
 use Rattle.resolver.proofs.Readable.{def_plain, axiom_plain}
 use Rattle.resolver.proofs.Walked.{bare}
-use Rattle.judge.specs.declared.row.Spot.{Spot}
-use Rattle.judge.specs.declared.next.Entry.{Entry as Written}
-use Rattle.judge.specs.Judging.{Judged, Judging, TermsAt, definition_at, axiom_at, BodyAt, with_body, no_body, Entering, StandsFor}
-use Rattle.judge.proofs.Sizes.{decl_length, names_few, entry_few}
-use Rattle.judge.proofs.Cores.{AllCore, checks_core, checks_length, entry_core, stage_front, stage_next, decl_next}
+use Rattle.judge.specs.Judging.{Judged, BodyAt, with_body, no_body}
+use Rattle.judge.proofs.Cores.{checks_core, entry_core, stage_front, stage_next, decl_next}
 
 -- A plain term leaves nothing out where no global hides arguments.
 basic-plain : (gs : List Global) (ys : List Name) → NoneHidden gs → (a : Expr) → basic a ≡ true → plain gs ys a ≡ true

@@ -1,12 +1,10 @@
 -- What the kernel finds of an entry, with the words to work in divided, is what settling promises.
-use Rattle.std.proofs.Common.{◌≡◌, ℕ, ◌+◌, ◌*◌, ◌<◌, ◌≤◌, max, List, [], length, Some, None, Option, sym, refl, subst as tr, arith}
-use mathlib.Core.Option.{some}
-use Rattle.theory.specs.Terms.{Term, size}
+use Rattle.std.proofs.Common.{◌≡◌, ℕ, ◌+◌, ◌*◌, ◌<◌, ◌≤◌, List, length, Some, None, Option, sym, refl, subst as tr, arith}
+use Rattle.theory.specs.Terms.{Term}
 use Rattle.theory.specs.Environment.{Entry, defined, assumed, Env}
 use Rattle.theory.specs.Typing.{whole}
-use Rattle.theory.specs.Question.{InQuestion, mentioned, of_type, of_assumed, entry_size, entry_depth}
+use Rattle.theory.specs.Question.{InQuestion, mentioned, of_type, of_assumed, entry_size}
 use Rattle.terms.specs.Words.{At}
-use Rattle.kernel.specs.Inference.{Reached, NeedsMore}
 use Rattle.kernel.specs.Checking.{Checkable, Checks}
 use Rattle.kernel.specs.declared.check.Checked.{Checked as Verdict}
 use Rattle.kernel.specs.declared.check.Checked.TheVariants.{Holds, Refused, Spent, NoRoom}

@@ -1,14 +1,14 @@
 -- The words of declarations in the tree bound what is kept of them: their names, the words of their entries, the words for resolving.
-use Rattle.std.proofs.Common.{◌≡◌, ℕ, ◌+◌, ◌*◌, ◌≤◌, true, List, [], ◌∷◌, ◌++◌, length, sym, refl, ap, ◌∙◌, arith, length-append}
+use Rattle.std.proofs.Common.{◌≡◌, ℕ, ◌+◌, ◌*◌, ◌≤◌, true, List, [], ◌∷◌, length, sym, ap, ◌∙◌, arith, length-append}
 use Rattle.theory.proofs.Options.{and_true, false-true}
-use Rattle.syntax.specs.Surface.{Name, Expr, e_name, e_at, e_full, e_sort, e_pi, e_lam, e_app, e_hole, e_by, e_have, Param, ConDecl, Decl, d_def, d_axiom, d_data, con_names, decl_names, names_of}
-use Rattle.syntax.specs.Tree.{put_name, put_expr, put_params, put_cons, put_decl, put_decls}
+use Rattle.syntax.specs.Surface.{Expr, e_name, e_at, e_full, e_sort, e_pi, e_lam, e_app, e_hole, e_by, e_have, Param, ConDecl, Decl, d_def, d_axiom, d_data, con_names, decl_names, names_of}
+use Rattle.syntax.specs.Tree.{put_expr, put_params, put_cons, put_decl, put_decls}
 use Rattle.syntax.proofs.TreeWords.{expr_then}
-use Rattle.syntax.proofs.DeclReadings.{params_then, cons_then}
+use Rattle.syntax.proofs.DeclReadings.{params_then}
 use Rattle.syntax.proofs.Items.{all_words}
 use Rattle.syntax.proofs.AllReadings.{decls_apart}
 use Rattle.syntax.specs.Declaring.{decl_words}
-use Rattle.resolver.specs.Resolving.{nodes, basic, basic_decl}
+use Rattle.resolver.specs.Resolving.{basic, basic_decl}
 use Rattle.resolver.specs.Entries.{decl_nodes}
 use Rattle.resolver.proofs.Plain.{nodes_few}
 

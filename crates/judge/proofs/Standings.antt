@@ -1,12 +1,12 @@
 -- Judging along a row of declarations: what is known when so many check and others are still to come, one lemma for each answer that
 -- may be given then, and one for going on.
-use Rattle.std.proofs.Common.{◌≡◌, ℕ, ◌<◌, true, false, List, [], ◌∷◌, ◌++◌, length, sym, refl, ap, ◌∙◌, subst as tr, append_assoc, append-nil}
+use Rattle.std.proofs.Common.{◌≡◌, ℕ, ◌<◌, true, false, List, [], ◌∷◌, ◌++◌, length, sym, refl, subst as tr, append_assoc, append-nil}
 use Rattle.theory.specs.Environment.{Entry, Env}
 use Rattle.theory.specs.Question.{TakesLonger, TakesMore}
 use Rattle.syntax.specs.Surface.{Decl, stage}
 use Rattle.syntax.specs.Grammar.{Reads}
 use Rattle.elaboration.specs.Elaboration.{Global}
-use Rattle.elaboration.specs.Declarations.{ElabDecl, Admissible, Forced, Checks, checks_end, checks_more, globals_of, plain_decl}
+use Rattle.elaboration.specs.Declarations.{ElabDecl, Admissible, Forced, checks_end, checks_more, globals_of, plain_decl}
 use Rattle.judge.specs.Promise.{landed, Standing, CheckedSays}
 use Rattle.judge.specs.Judging.{Judged}
 use Rattle.judge.specs.declared.Checked.TheVariants.{All, Refused, Open, Spent, NoRoom}

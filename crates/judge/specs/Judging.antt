@@ -1,5 +1,5 @@
 -- Judging along the declarations of a text, with the names and the environment so far in words.
-use Rattle.std.specs.Prelude.{◌≡◌, ℕ, suc, ◌+◌, ◌*◌, ◌<◌, ◌≤◌, true, List, [], ◌∷◌, ◌++◌, length, take, drop, Some, None, Option}
+use Rattle.std.specs.Prelude.{◌≡◌, ℕ, ◌+◌, ◌*◌, ◌<◌, ◌≤◌, true, List, [], ◌∷◌, ◌++◌, length, take, drop, Some, None, Option}
 use Rattle.theory.specs.Terms.{Term, size}
 use Rattle.theory.specs.Environment.{Entry, defined, assumed, Env}
 use Rattle.theory.specs.Typing.{WfEntry, WfEnv}

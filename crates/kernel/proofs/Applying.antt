@@ -1,12 +1,11 @@
 -- What follows from comparing the argument's type with the domain.
-use Rattle.std.proofs.Common.{◌≡◌, ℕ, suc, ◌+◌, ◌*◌, ◌^◌, ◌<◌, ◌≤◌, ◌⊎◌, List, [], ◌∷◌, ◌++◌, length, take, drop, sym, refl, ap, ◌∙◌, subst as tr, inl, inr, arith}
+use Rattle.std.proofs.Common.{◌≡◌, ℕ, suc, ◌+◌, ◌*◌, ◌<◌, ◌≤◌, ◌⊎◌, List, [], length, take, sym, ap, ◌∙◌, subst as tr, inl, inr, arith}
 use mathlib.Core.Option.{some}
 use Rattle.std.proofs.lemmas.List.{take-take}
 use Rattle.theory.specs.Terms.{Term, pi, app, subst, size}
 use Rattle.theory.specs.Reduction.{normal_steps}
-use Rattle.theory.proofs.Closed.{Scoped, typed_scoped}
 use Rattle.theory.proofs.NormalSteps.{domain_reaches}
-use Rattle.terms.specs.Words.{put, At}
+use Rattle.terms.specs.Words.{put}
 use Rattle.terms.specs.Writing.{Appends}
 use Rattle.terms.proofs.Appending.{append_keeps}
 use Rattle.theory.specs.Question.{TakesLonger, entry_size}

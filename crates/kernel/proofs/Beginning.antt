@@ -1,5 +1,5 @@
 -- The walk before its first turn, and after its last.
-use Rattle.std.proofs.Common.{◌≡◌, ℕ, ◌+◌, ◌*◌, ◌^◌, ◌<◌, ◌≤◌, List, [], ◌∷◌, length, take, drop, sym, refl, ap, ◌∙◌, subst as tr, arith, length-drop}
+use Rattle.std.proofs.Common.{◌≡◌, ℕ, ◌*◌, ◌^◌, ◌<◌, ◌≤◌, List, length, refl, ap, subst as tr, arith, length-drop}
 use Rattle.std.proofs.lemmas.List.{drop_all}
 use Rattle.theory.specs.Terms.{Term}
 use Rattle.reduction.specs.Stepping.{Stands}

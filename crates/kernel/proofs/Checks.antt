@@ -1,5 +1,5 @@
 -- The terms of an entry as tasks of inference, and what their answers say of the entry.
-use Rattle.std.proofs.Common.{◌≡◌, ℕ, suc, ◌+◌, ◌*◌, ◌^◌, ◌<◌, ◌≤◌, ◌⊎◌, List, [], length, take, sym, refl, ap, ◌∙◌, subst as tr, inl, inr, arith}
+use Rattle.std.proofs.Common.{◌≡◌, ℕ, suc, ◌+◌, ◌*◌, ◌<◌, ◌≤◌, ◌⊎◌, List, [], length, refl, ap, ◌∙◌, subst as tr, inl, inr, arith}
 use mathlib.Core.Option.{some}
 use Rattle.std.proofs.lemmas.List.{drop_all}
 use Rattle.theory.specs.Terms.{Term, sort, size, depth}

@@ -1,12 +1,12 @@
 -- Behind a second part: the frame and the name are taken away, and the node has its type.
-use Rattle.std.proofs.Common.{◌≡◌, ℕ, ◌+◌, ◌*◌, ◌^◌, ◌<◌, ◌≤◌, max, List, [], ◌∷◌, ◌++◌, length, get_or, take, drop, sym, refl, ap, ◌∙◌, subst as tr, arith}
+use Rattle.std.proofs.Common.{◌≡◌, ℕ, ◌+◌, ◌*◌, ◌^◌, ◌<◌, ◌≤◌, max, List, [], ◌∷◌, length, get_or, take, drop, sym, refl, ap, ◌∙◌, subst as tr, arith}
 use Rattle.std.proofs.lemmas.List.{drop-drop}
-use Rattle.theory.specs.Terms.{Term, sort, pi, lam, size}
+use Rattle.theory.specs.Terms.{Term, sort, pi, size}
 use Rattle.theory.specs.Typing.{is_sort}
 use Rattle.terms.specs.Words.{put, At, Holds, number}
 use Rattle.terms.specs.Writing.{Appends}
 use Rattle.terms.proofs.Appending.{append_keeps}
-use Rattle.kernel.specs.Inference.{Has, Worked, z_lam, z_under_pi, z_under_lam, held, NeedsMore}
+use Rattle.kernel.specs.Inference.{Has, Worked, z_lam, held, NeedsMore}
 use Rattle.theory.specs.Question.{entry_size}
 use Rattle.kernel.specs.Machine.{place, behind, frame_words, kept_words, Task, Way, Sensible, Kept}
 use Rattle.kernel.specs.Turns.{Behind}

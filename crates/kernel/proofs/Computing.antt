@@ -1,5 +1,5 @@
 -- Normal-order reduction with a number of steps: towards a first reduct, to the normal form, and of the domain of a function type.
-use Rattle.std.proofs.Common.{◌≡◌, ℕ, suc, ◌+◌, ◌≤◌, Bool, true, sym, refl, ap, ◌∙◌, arith}
+use Rattle.std.proofs.Common.{◌≡◌, ℕ, suc, ◌+◌, ◌≤◌, Bool, true, refl, ap, ◌∙◌, arith}
 use mathlib.Core.Option.{some, none}
 use Rattle.theory.specs.Terms.{Term, pi}
 use Rattle.theory.specs.Environment.{Env}

@@ -1,13 +1,13 @@
 -- Behind a domain whose type comes to a sort: the second part of the node is next.
-use Rattle.std.proofs.Common.{◌≡◌, ℕ, ◌+◌, ◌*◌, ◌<◌, ◌≤◌, List, [], ◌∷◌, ◌++◌, length, take, drop, set, sym, refl, ap, ◌∙◌, subst as tr, arith, length-set}
+use Rattle.std.proofs.Common.{◌≡◌, ℕ, ◌+◌, ◌*◌, ◌<◌, ◌≤◌, List, [], ◌∷◌, length, take, drop, set, sym, refl, ap, ◌∙◌, subst as tr, arith, length-set}
 use Rattle.std.proofs.lemmas.List.{drop-drop, drop-set}
 use Rattle.theory.specs.Terms.{Term, sort, size}
 use Rattle.theory.specs.Typing.{is_sort}
-use Rattle.terms.specs.Words.{number, At}
+use Rattle.terms.specs.Words.{number}
 use Rattle.terms.specs.Writing.{Pushes}
 use Rattle.kernel.specs.Inference.{Has, Worked, z_pi, z_lam, z_under_pi, z_under_lam, Untyped}
 use Rattle.kernel.specs.Frames.{Stacks}
-use Rattle.kernel.specs.Machine.{place, frame_words, Task, Way, Sensible, Kept}
+use Rattle.kernel.specs.Machine.{place, Task, Way, Sensible, Kept}
 use Rattle.kernel.specs.Reducing.{NoSort}
 use Rattle.kernel.specs.Turns.{Before}
 use Rattle.kernel.proofs.Walk.{none_pi, none_under_pi, none_lam}

@@ -1,5 +1,5 @@
 -- A turn down leaves less to be done.
-use Rattle.std.proofs.Common.{◌≡◌, ℕ, ◌+◌, ◌<◌, ◌≤◌, List, length, sym, subst as tr, arith}
+use Rattle.std.proofs.Common.{◌≡◌, ℕ, ◌+◌, ◌<◌, ◌≤◌, List, sym, subst as tr, arith}
 use Rattle.kernel.specs.Leaves.{turn_of}
 use Rattle.kernel.specs.Downs.{Enters}
 use Rattle.kernel.specs.Turns.{weight}

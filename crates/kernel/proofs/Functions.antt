@@ -1,5 +1,5 @@
 -- Behind a function whose type comes to a function type: the argument is next.
-use Rattle.std.proofs.Common.{◌≡◌, ℕ, ◌+◌, ◌*◌, ◌<◌, ◌≤◌, true, false, List, [], ◌∷◌, ◌++◌, length, take, drop, sym, refl, ap, ◌∙◌, subst as tr, ap₂, arith}
+use Rattle.std.proofs.Common.{◌≡◌, ℕ, ◌+◌, ◌*◌, ◌≤◌, true, false, List, [], ◌∷◌, ◌++◌, length, ap, ◌∙◌, arith}
 use mathlib.Core.Option.{some, none}
 use Rattle.theory.specs.Terms.{Term, var, const, sort, pi, lam, app, size}
 use Rattle.theory.specs.Reduction.{normal_step, normal_steps}
@@ -8,9 +8,9 @@ use Rattle.theory.proofs.Options.{false-true}
 use Rattle.terms.specs.Words.{put, number}
 use Rattle.terms.specs.Writing.{Appends}
 use Rattle.terms.proofs.Nodes.{put-length}
-use Rattle.kernel.specs.Inference.{Has, Worked, Untyped, z_fun, z_arg}
+use Rattle.kernel.specs.Inference.{Has, Untyped, z_arg}
 use Rattle.kernel.specs.Frames.{Stacks}
-use Rattle.kernel.specs.Machine.{place, frame_words, Task, Way, Sensible, Kept}
+use Rattle.kernel.specs.Machine.{place, Task, Way, Sensible, Kept}
 use Rattle.kernel.specs.Turns.{Before}
 use Rattle.kernel.proofs.Walk.{none_fun}
 use Rattle.kernel.proofs.FrameViews.{FrameView, f_fun}

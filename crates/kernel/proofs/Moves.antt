@@ -1,8 +1,8 @@
 -- The words of the walk when it moves: down into a first part.
-use Rattle.std.proofs.Common.{◌≡◌, ℕ, zero, suc, ◌+◌, ◌*◌, ◌^◌, ◌<◌, ◌≤◌, List, [], ◌∷◌, ◌++◌, length, take, drop, sym, refl, ap, ◌∙◌, subst as tr, arith, length-drop, length-take}
+use Rattle.std.proofs.Common.{◌≡◌, ℕ, zero, suc, ◌+◌, ◌*◌, ◌^◌, ◌<◌, ◌≤◌, List, [], ◌∷◌, ◌++◌, length, drop, refl, ap, ◌∙◌, subst as tr, arith, length-drop, length-take}
 use mathlib.Core.Option.{some}
 use lib.ListN.{get_elem?}
-use Rattle.theory.specs.Terms.{Term, pi, lam, app, size}
+use Rattle.theory.specs.Terms.{Term, size}
 use Rattle.theory.specs.Environment.{Env}
 use Rattle.theory.specs.Typing.{WfContext, ctx_end, ctx_more}
 use Rattle.theory.proofs.Options.{none-some, some_inj}

@@ -1,8 +1,8 @@
 -- What reducing towards an aim gives: a first reduct within the steps, a normal form, a reason.
-use Rattle.std.proofs.Common.{◌≡◌, ℕ, suc, ◌+◌, ◌*◌, ◌≤◌, true, false, List, [], length, get_or, take, sym, refl, ap, ◌∙◌, subst as tr, arith, length-append, length-take}
+use Rattle.std.proofs.Common.{◌≡◌, ℕ, suc, ◌+◌, ◌≤◌, true, List, [], length, get_or, take, sym, refl, ap, ◌∙◌, subst as tr, arith, length-append, length-take}
 use mathlib.Core.Option.{Option, some, none}
 use Rattle.reduction.specs.Aims.{is_none}
-use Rattle.theory.specs.Terms.{Term, var, const, sort, pi, lam, app, size}
+use Rattle.theory.specs.Terms.{Term, var, const, sort, pi, lam, app}
 use Rattle.theory.specs.Environment.{Env}
 use Rattle.theory.specs.Reduction.{normal_steps}
 use Rattle.theory.specs.Typing.{is_pi, is_sort, FirstReduct}
@@ -14,7 +14,7 @@ use Rattle.terms.proofs.Appending.{append_keeps}
 use Rattle.terms.proofs.Places.{at_written, at_three}
 use Rattle.reduction.specs.Stepping.{Stands}
 use Rattle.kernel.specs.Inference.{Worked}
-use Rattle.kernel.specs.Reducing.{Overspent, Overfull, NoSort}
+use Rattle.kernel.specs.Reducing.{Overspent}
 
 -- A term that stands stands within the words.
 pub stands_within : (ws : List ℕ) (at end : ℕ) (t : Term) → Stands ws at t end → (at + 3 ≤ length ws) × (end ≤ length ws) × (at + 3 ≤ end)

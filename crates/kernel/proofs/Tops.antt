@@ -1,5 +1,5 @@
 -- A type written on top of the heap, and the answer where it does not fit.
-use Rattle.std.proofs.Common.{◌≡◌, ℕ, suc, ◌+◌, ◌*◌, ◌<◌, ◌≤◌, ◌⊎◌, List, [], ◌∷◌, ◌++◌, length, take, sym, refl, ap, ◌∙◌, subst as tr, inl, inr, arith, length-append, length-take}
+use Rattle.std.proofs.Common.{◌≡◌, ℕ, suc, ◌+◌, ◌*◌, ◌<◌, ◌≤◌, List, [], ◌++◌, length, take, sym, refl, ap, ◌∙◌, subst as tr, inl, inr, arith, length-append, length-take}
 use mathlib.Core.Option.{some, none}
 use lib.ListN.{get_elem?}
 use Rattle.theory.specs.Terms.{Term, sort, h_def, lift, size}
@@ -18,7 +18,7 @@ use Rattle.theory.specs.Question.{entry_size}
 use Rattle.kernel.specs.Inference.{Has, Untyped, held, Reached, NeedsMore}
 use Rattle.kernel.specs.Machine.{Core, place, leaf_type, Task, Way, Sensible, Kept}
 use Rattle.kernel.specs.Leaves.{LeafSays, turn_of}
-use Rattle.kernel.specs.Turns.{Behind, Given, Turned}
+use Rattle.kernel.specs.Turns.{Given, Turned}
 use Rattle.kernel.specs.declared.turn.Spot.{Spot}
 use Rattle.kernel.specs.declared.leaf.Leaf.{Leaf}
 use Rattle.kernel.specs.declared.leaf.Leaf.TheVariants.{Written, Missing, NoRoom}

@@ -1,6 +1,6 @@
 -- A term by its root.
 use Rattle.std.proofs.Common.{◌≡◌, ℕ, subst as tr}
-use Rattle.theory.specs.Terms.{Head, h_def, h_data, h_con, h_rec, h_eq, h_refl, h_along, Term, var, const, sort, pi, lam, app}
+use Rattle.theory.specs.Terms.{h_def, h_data, h_con, h_rec, h_eq, h_refl, h_along, Term, var, const, sort, pi, lam, app}
 use Rattle.terms.specs.declared.sign.Index.{Index}
 use Rattle.terms.specs.declared.sign.Level.{Level}
 use Rattle.terms.specs.declared.sign.Sign.{Sign}

@@ -1,11 +1,9 @@
 -- The walk of inference: its context is well-formed, a part without a type leaves the whole without one, and the type of a node
 -- follows from the types of its parts.
-use Rattle.std.proofs.Common.{◌≡◌, ℕ, suc, ◌+◌, ◌≤◌, max, false, List, ◌∷◌, length, arith}
-use mathlib.Core.Option.{none}
-use lib.ListN.{get_elem?}
-use Rattle.theory.specs.Terms.{Head, Term, var, const, sort, pi, lam, app, size, depth, subst}
-use Rattle.theory.specs.Environment.{Env, head_type_lem}
-use Rattle.theory.specs.Typing.{HasType, Infers, i_pi, i_lam, i_app, WfEnv, WfContext, ctx_more, FirstReduct, is_pi, is_sort, Subterm, whole, pi_left, pi_right, lam_left, lam_right, app_left, app_right}
+use Rattle.std.proofs.Common.{◌≡◌, ℕ, ◌+◌, ◌≤◌, max, false, List, ◌∷◌, length, arith}
+use Rattle.theory.specs.Terms.{Term, sort, pi, lam, app, size, depth, subst}
+use Rattle.theory.specs.Environment.{Env}
+use Rattle.theory.specs.Typing.{i_pi, i_lam, i_app, WfEnv, WfContext, ctx_more, is_pi, is_sort, Subterm, whole, pi_left, pi_right, lam_left, lam_right, app_left, app_right}
 use Rattle.theory.proofs.NormalForms.{NormalForm}
 use Rattle.theory.proofs.Decisions.{sort_yes, app_yes_same, app_yes, app_no, app_no_pi, app_no_fun, app_no_arg, pi_yes, pi_no_left, pi_no_right, pi_no_domain, pi_no_codomain, lam_yes, lam_no_left, lam_no_domain, lam_no_body}
 use Rattle.kernel.specs.Inference.{Untyped, Has, Worked, Zipper, z_end, z_pi, z_under_pi, z_lam, z_under_lam, z_fun, z_arg, frames, args}

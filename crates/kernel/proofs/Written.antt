@@ -1,5 +1,5 @@
 -- The type of a head is that of the entry that is looked up; the types of terms without parts are inferred, and where there is none the term has none.
-use Rattle.std.proofs.Common.{◌≡◌, ℕ, suc, List, [], sym, refl, subst as tr}
+use Rattle.std.proofs.Common.{◌≡◌, ℕ, suc, List, sym, subst as tr}
 use mathlib.Core.Option.{some, none}
 use lib.ListN.{get_elem?}
 use Rattle.theory.specs.Terms.{Term, var, const, sort, h_def, option, lift}

@@ -1,8 +1,6 @@
 -- The answers of inference and of checking a declaration, each with the fact that it stands for.
 use Rattle.std.specs.Prelude.{◌≡◌, ℕ, ◌+◌, ◌*◌, ◌≤◌, List, length, drop}
 use Rattle.theory.specs.Terms.{Term, size}
-use Rattle.theory.specs.Environment.{Entry, Env}
-use Rattle.theory.specs.Typing.{WfEntry}
 use Rattle.terms.specs.Words.{At}
 use Rattle.reduction.specs.Stepping.{Stands}
 use Rattle.theory.specs.Question.{TakesLonger, entry_size}

@@ -1,6 +1,6 @@
 -- What checking a declaration promises.
-use Rattle.std.specs.Prelude.{◌≡◌, ℕ, ◌+◌, ◌*◌, ◌^◌, ◌≤◌, List, [], length}
-use Rattle.theory.specs.Terms.{Term, sort, size}
+use Rattle.std.specs.Prelude.{ℕ, ◌+◌, ◌*◌, ◌^◌, ◌≤◌, List, [], length}
+use Rattle.theory.specs.Terms.{Term, sort}
 use Rattle.theory.specs.Environment.{Entry, defined, assumed, inductive, Env}
 use Rattle.theory.specs.Typing.{HasType, WfEntry, WfEnv}
 use Rattle.terms.specs.Words.{At}

@@ -1,5 +1,5 @@
 -- The environment in words.
-use Rattle.std.specs.Prelude.{◌≡◌, ℕ, List, ◌≢◌}
+use Rattle.std.specs.Prelude.{ℕ, List, ◌≢◌}
 use Rattle.std.proofs.Math.Option.{some}
 use Rattle.theory.specs.Environment.{DataType, Env, data_at}
 use Rattle.reduction.specs.Store.{EnvAt}

@@ -8,7 +8,7 @@ use Rattle.theory.specs.Reduction.{map_option}
 use Rattle.theory.specs.Typing.{WfEnv, WfContext}
 use Rattle.terms.specs.Words.{put, number, At}
 use Rattle.theory.specs.Question.{entry_size, entry_depth}
-use Rattle.kernel.specs.Inference.{Has, Zipper, z_end, z_pi, z_under_pi, z_lam, z_under_lam, z_fun, z_arg, held, Covers}
+use Rattle.kernel.specs.Inference.{Zipper, z_end, z_pi, z_under_pi, z_lam, z_under_lam, z_fun, z_arg, held, Covers}
 
 -- The terms of the core: of the heads only definitions and axioms, and levels of at most three digits.
 abbrev pub CoreHead : Head → Type 0

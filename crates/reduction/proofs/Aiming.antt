@@ -1,6 +1,5 @@
 -- The test whether a term is of the aim's form.
-use Rattle.std.proofs.Common.{◌≡◌, ℕ, ◌+◌, ◌*◌, ◌<◌, ◌≤◌, Bool, true, false, eqb, ◌⊎◌, List, [], ◌∷◌, ◌++◌, length, get_or, drop, sym, refl, ap, ◌∙◌, subst as tr, inl, inr, append_assoc, arith, length-append}
-use mathlib.Core.Option.{Option, some, none}
+use Rattle.std.proofs.Common.{◌≡◌, ℕ, ◌+◌, ◌≤◌, Bool, true, false, eqb, List, ◌++◌, length, get_or, drop, sym, refl, ap, ◌∙◌, inr, append_assoc, arith, length-append}
 use Rattle.std.proofs.lemmas.List.{drop_at}
 use Rattle.theory.specs.Terms.{h_def, h_data, h_con, h_rec, h_eq, h_refl, h_along, Term, var, const, sort, pi, lam, app, size}
 use Rattle.theory.specs.Environment.{Env}
@@ -8,11 +7,11 @@ use Rattle.theory.specs.Reduction.{normal_step}
 use Rattle.theory.specs.Typing.{is_pi, is_sort}
 use Rattle.terms.specs.Words.{put, At}
 use Rattle.terms.proofs.Nodes.{tag}
-use Rattle.terms.proofs.Places.{Three, at_three}
+use Rattle.terms.proofs.Places.{at_three}
 use Rattle.reduction.specs.Stepping.{Findable}
 use Rattle.reduction.specs.Aims.{is_none, domain_rests_lem, meets, Met}
 use Rattle.reduction.specs.declared.reduce.Aim.{Aim}
-use Rattle.reduction.specs.declared.reduce.Aim.TheVariants.{ToNormal, ToPi, ToSort, ToDomain}
+use Rattle.reduction.specs.declared.reduce.Aim.TheVariants.{ToPi, ToSort}
 use Rattle.reduction.proofs.Finding.{node}
 
 pub front_at : (heap front rest : List ℕ) (t : Term) (at : ℕ) → heap ≡ front ++ put t rest → length front ≡ at → At heap at t rest

@@ -1,17 +1,17 @@
 -- What a recursor on a constructor contracts to, in words: so many applications, the case, the constructor's fields and recursive fields, and
 -- for each recursive field the recursor's words with that field.
-use Rattle.std.proofs.Common.{◌≡◌, ℕ, zero, suc, ◌+◌, ◌-◌, ◌*◌, ◌<◌, ◌≤◌, List, [], ◌∷◌, ◌++◌, length, take, drop, sym, refl, ap, ◌∙◌, subst as tr, ap₂, append_assoc, append-nil, arith, length-append, length-drop}
-use mathlib.Core.Option.{Option, some, none}
+use Rattle.std.proofs.Common.{◌≡◌, ℕ, zero, suc, ◌+◌, List, [], ◌∷◌, ◌++◌, length, take, drop, sym, refl, ap, ◌∙◌, ap₂, arith, length-append, length-drop}
+use mathlib.Core.Option.{some}
 use lib.ListN.{get_elem?}
 use Rattle.std.proofs.lemmas.List.{take_at}
-use Rattle.theory.specs.Terms.{Head, h_con, h_rec, h_along, Term, var, const, sort, pi, lam, app, apps, size}
+use Rattle.theory.specs.Terms.{Head, h_con, h_rec, h_along, Term, const, app, apps}
 use Rattle.theory.specs.Environment.{Constructor, DataType, Env, data_at}
 use Rattle.theory.specs.Reduction.{spine, app_each, contract}
 use Rattle.theory.proofs.Iota.{RecView, IotaView, by_rec, by_along, iota_view, contract-some, spine_head, spine-args, spine_is}
 use Rattle.theory.proofs.WeakHead.{spine_last}
 use Rattle.theory.proofs.Options.{some_inj, none-some}
 use Rattle.terms.specs.Words.{put, puts}
-use Rattle.terms.proofs.Nodes.{put_append, puts_append, puts_tail}
+use Rattle.terms.proofs.Nodes.{put_append, puts_append}
 use Rattle.reduction.specs.Spines.{uses, head_term, head_of}
 use Rattle.reduction.proofs.Spreading.{twos, spine_head_is, spine-length}
 

@@ -1,10 +1,10 @@
 -- The environment with one entry more.
-use Rattle.std.proofs.Common.{◌≡◌, ℕ, zero, suc, ◌+◌, ◌-◌, ◌*◌, ◌/◌, ◌%◌, ◌<◌, ◌≤◌, min, ltb, List, [], ◌∷◌, ◌++◌, length, get_or, take, drop, set, sym, refl, ap, ◌∙◌, subst as tr, ap₂, append_assoc, append-nil, arith, length-append, length-drop, length-set, length-take, ltb-false, ltb-true}
-use mathlib.Core.Option.{Option, some, none}
+use Rattle.std.proofs.Common.{◌≡◌, ℕ, suc, ◌+◌, ◌-◌, ◌*◌, ◌/◌, ◌%◌, ◌≤◌, ltb, List, [], ◌∷◌, ◌++◌, length, get_or, take, drop, set, sym, refl, ap, ◌∙◌, subst as tr, ap₂, arith, length-append, length-drop, length-set, ltb-false, ltb-true}
+use mathlib.Core.Option.{some}
 use lib.ListN.{get_elem?}
 use Rattle.std.proofs.lemmas.List.{get_or_append_left, get_or_at, get_or-append-add, drop-append-le, drop_at, length-take-le, take_at, take-take, take-append-drop, drop-take, drop-set-lt}
 use Rattle.theory.specs.Terms.{Term, size}
-use Rattle.theory.specs.Environment.{Constructor, DataType, Entry, defined, assumed, inductive, Env}
+use Rattle.theory.specs.Environment.{Constructor, Entry, defined, assumed, inductive, Env}
 use Rattle.theory.proofs.Options.{none-some, cases_bool}
 use Rattle.theory.proofs.Closed.{get_snoc}
 use Rattle.terms.specs.Words.{put, puts, number, At}

@@ -1,12 +1,12 @@
 -- The normal-order step found in one pass from left to right. What is still to come is a row of items; `ans` says what the step of the whole
 -- is, given what was found so far. Expanding an item into its parts keeps the answer.
-use Rattle.std.proofs.Common.{◌≡◌, ℕ, zero, suc, ◌+◌, ◌-◌, ◌*◌, ◌<◌, ◌≤◌, Bool, true, false, cond, List, [], ◌∷◌, ◌++◌, length, sym, refl, ap, ◌∙◌, ap₂, append_assoc, append-nil, arith}
+use Rattle.std.proofs.Common.{◌≡◌, ℕ, true, List, [], ◌∷◌, ◌++◌, sym, refl, ap, ◌∙◌, ap₂, append_assoc}
 use mathlib.Core.Option.{Option, some, none}
-use Rattle.theory.specs.Terms.{Head, h_def, h_data, h_con, h_rec, h_eq, h_refl, h_along, Term, var, const, sort, pi, lam, app, option, size}
+use Rattle.theory.specs.Terms.{Term, pi, lam, app}
 use Rattle.theory.specs.Environment.{Env}
-use Rattle.theory.specs.Reduction.{or_else, map_option, bind, Spine, spine, contract, delta, needs_last, normal_step}
+use Rattle.theory.specs.Reduction.{or_else, map_option, contract, normal_step}
 use Rattle.theory.proofs.WeakHead.{needs_arg}
-use Rattle.terms.specs.Words.{put, puts}
+use Rattle.terms.specs.Words.{put}
 use Rattle.reduction.specs.Spines.{CalmApp}
 use Rattle.reduction.proofs.Putting.{behind}
 

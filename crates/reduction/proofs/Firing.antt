@@ -1,19 +1,19 @@
 -- A head that looks at its last argument reduces exactly if that is a constructor, or reflexivity, with all its arguments.
-use Rattle.std.proofs.Common.{◌≡◌, ℕ, zero, suc, ◌+◌, ◌-◌, ◌*◌, ◌<◌, ◌≤◌, Bool, true, false, cond, ◌&&◌, eqb, ◌⊎◌, List, [], ◌∷◌, ◌++◌, length, sym, refl, ap, ◌∙◌, subst as tr, ap₂, inl, inr, arith, eq-eqb, eqb-true}
+use Rattle.std.proofs.Common.{◌≡◌, ℕ, zero, suc, ◌+◌, ◌<◌, Bool, true, false, cond, eqb, List, [], ◌∷◌, length, sym, refl, ap, ◌∙◌, arith, eq-eqb, eqb-true}
 use mathlib.Core.Option.{Option, some, none}
 use lib.ListN.{get_elem?}
-use Rattle.theory.specs.Terms.{Head, h_def, h_data, h_con, h_rec, h_eq, h_refl, h_along, Term, var, const, sort, pi, lam, app, option, size, subst}
+use Rattle.theory.specs.Terms.{Head, h_def, h_data, h_con, h_rec, h_eq, h_refl, h_along, Term, var, const, sort, pi, lam, app, option}
 use Rattle.theory.specs.Environment.{Constructor, DataType, Env, data_at}
-use Rattle.theory.specs.Reduction.{bind, spine, ConAt, con_of, is_refl, last_arg, contract, needs_last, iota_head}
-use Rattle.theory.proofs.Options.{none-some, some_inj, true-false, false-true, cases_option, cases_bool, and_true}
-use Rattle.theory.proofs.Iota.{iota, spine-args, last_append, rec_reduct, RecView, AlongView, IotaView, by_rec, by_along, iota_view, iota_by_rec, iota_by_along, iota_contract, contract-some}
+use Rattle.theory.specs.Reduction.{spine, last_arg, contract, needs_last}
+use Rattle.theory.proofs.Options.{none-some, some_inj, true-false, false-true, cases_option, cases_bool}
+use Rattle.theory.proofs.Iota.{spine-args, last_append, rec_reduct, IotaView, by_rec, by_along, iota_view, iota_by_rec, iota_by_along, iota_contract, contract-some}
 use Rattle.theory.proofs.WeakHead.{needs_arg}
 use Rattle.terms.specs.Words.{root}
 use Rattle.terms.specs.declared.sign.Sign.{Sign}
 use Rattle.terms.specs.declared.sign.Sign.TheVariants.{Rec, Along}
 use Rattle.reduction.specs.Spines.{uses, head_term, head_of, wants, con_full, con_fits_lem, refl_fits_lem, Fires}
 use Rattle.reduction.proofs.Spreading.{spine_head_is, spine-length, needs_is}
-use Rattle.reduction.proofs.Storing.{get_there, get_past}
+use Rattle.reduction.proofs.Storing.{get_there}
 
 -- The last argument of f a is a.
 last_is : (f a : Term) → last_arg (spine f (a ∷ [])).args ≡ some a

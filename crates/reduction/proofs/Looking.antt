@@ -1,14 +1,12 @@
 -- What the head of a spine and the number of its arguments say of the pass.
-use Rattle.std.proofs.Common.{◌≡◌, ℕ, zero, suc, ◌+◌, ◌-◌, ◌*◌, ◌<◌, ◌≤◌, Bool, true, false, cond, eqb, ◌⊎◌, List, [], ◌∷◌, sym, refl, ap, ◌∙◌, subst as tr, ap₂, inl, inr, arith, eq-eqb, ne_eqb}
-use mathlib.Core.Option.{Option, some, none}
-use Rattle.theory.specs.Terms.{Head, h_def, h_data, h_con, h_rec, h_eq, h_refl, h_along, Term, var, const, sort, pi, lam, app, option, size, subst}
-use Rattle.theory.specs.Environment.{Env, data_at}
-use Rattle.theory.specs.Reduction.{or_else, contract, delta, needs_last, normal_step}
-use Rattle.theory.proofs.Options.{false-true, true-false, none-some}
-use Rattle.theory.proofs.WeakHead.{needs_arg}
-use Rattle.reduction.specs.Spines.{uses, head_term, head_of, wants, Wants, is_lam, strip, CalmApp, CalmTo, top_step, body_of, Looks}
-use Rattle.reduction.specs.declared.spine.Look.{Look}
-use Rattle.reduction.specs.declared.spine.Look.TheVariants.{Leaf, Pair, Redex, Spread, Needs}
+use Rattle.std.proofs.Common.{◌≡◌, ℕ, zero, suc, ◌+◌, ◌-◌, ◌*◌, ◌<◌, ◌≤◌, false, ◌⊎◌, sym, refl, ap, ◌∙◌, subst as tr, inl, inr, arith, eq-eqb, ne_eqb}
+use mathlib.Core.Option.{some}
+use Rattle.theory.specs.Terms.{h_def, h_data, h_con, h_rec, h_eq, h_refl, h_along, Term, var, const, sort, pi, lam, app, subst}
+use Rattle.theory.specs.Environment.{Env}
+use Rattle.theory.specs.Reduction.{contract}
+use Rattle.theory.proofs.Options.{none-some}
+use Rattle.reduction.specs.Spines.{uses, head_term, wants, Wants, is_lam, strip, top_step, body_of, Looks}
+use Rattle.reduction.specs.declared.spine.Look.TheVariants.{Redex, Spread, Needs}
 use Rattle.reduction.proofs.Spreading.{calm_to, needs_is}
 
 -- The term below k applications has the same head and k arguments fewer.

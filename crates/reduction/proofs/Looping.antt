@@ -1,5 +1,5 @@
 -- The state of the loop that finds the step after each of its turns, and that its measure falls.
-use Rattle.std.proofs.Common.{◌≡◌, ℕ, zero, suc, ◌+◌, ◌-◌, ◌*◌, ◌<◌, ◌≤◌, ◌⊎◌, List, [], ◌∷◌, ◌++◌, length, drop, Some, None, Option as Maybe, sym, refl, ap, ◌∙◌, subst as tr, ap₂, inl, inr, arith, length-drop}
+use Rattle.std.proofs.Common.{◌≡◌, ℕ, ◌+◌, ◌-◌, ◌<◌, ◌≤◌, List, [], ◌++◌, length, drop, Some, None, Option as Maybe, sym, ap, subst as tr, arith, length-drop}
 use Rattle.std.proofs.lemmas.List.{drop-drop, drop_all}
 use Rattle.theory.specs.Terms.{Term}
 use Rattle.theory.specs.Environment.{Env}

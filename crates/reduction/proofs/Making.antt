@@ -1,12 +1,12 @@
 -- The parts of a redex in words.
-use Rattle.std.proofs.Common.{◌≡◌, ℕ, zero, suc, ◌+◌, ◌-◌, ◌*◌, ◌^◌, ◌<◌, ◌≤◌, List, [], ◌∷◌, ◌++◌, length, drop, sym, refl, ap, ◌∙◌, subst as tr, ap₂, arith}
-use mathlib.Core.Option.{Option, some, none}
+use Rattle.std.proofs.Common.{◌≡◌, ℕ, zero, suc, ◌+◌, ◌*◌, ◌<◌, ◌≤◌, List, [], ◌∷◌, length, drop, sym, refl, ap, ◌∙◌, subst as tr, arith}
+use mathlib.Core.Option.{Option, some}
 use lib.ListN.{get_elem?}
 use Rattle.std.proofs.lemmas.List.{drop-drop}
-use Rattle.theory.specs.Terms.{Head, h_def, Term, const, lam, app, size}
-use Rattle.theory.specs.Environment.{Entry, defined, assumed, inductive, Env, entry_body}
+use Rattle.theory.specs.Terms.{h_def, Term, lam, app, size}
+use Rattle.theory.specs.Environment.{Entry, defined, Env, entry_body}
 use Rattle.theory.specs.Reduction.{bind, delta}
-use Rattle.theory.proofs.Options.{none-some, some_inj}
+use Rattle.theory.proofs.Options.{some_inj}
 use Rattle.terms.specs.Words.{put, puts, At, Holds}
 use Rattle.terms.proofs.Places.{at_behind}
 use Rattle.reduction.specs.Stepping.{RowAt}

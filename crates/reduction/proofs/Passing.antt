@@ -1,14 +1,14 @@
 -- The pass that finds the normal-order step: its state, and what one turn makes of it.
-use Rattle.std.proofs.Common.{◌≡◌, ℕ, zero, suc, ◌+◌, ◌-◌, ◌*◌, ◌<◌, ◌≤◌, Bool, true, false, cond, eqb, ◌⊎◌, List, [], ◌∷◌, ◌++◌, length, Some, None, Option as Maybe, sym, refl, ap, ◌∙◌, subst as tr, ap₂, inl, inr, append_assoc, append-nil, arith, length-append}
+use Rattle.std.proofs.Common.{◌≡◌, ℕ, zero, suc, ◌+◌, ◌*◌, ◌≤◌, true, List, [], ◌∷◌, ◌++◌, length, Some, None, Option as Maybe, sym, refl, ap, ◌∙◌, subst as tr, ap₂, append_assoc, arith, length-append}
 use mathlib.Core.Option.{Option, some, none}
-use Rattle.theory.specs.Terms.{Head, Term, var, const, sort, pi, lam, app, size}
+use Rattle.theory.specs.Terms.{Term, var, const, sort, pi, lam, app, size}
 use Rattle.theory.specs.Environment.{Env}
-use Rattle.theory.specs.Reduction.{or_else, map_option, contract, delta, normal_step}
-use Rattle.theory.proofs.Options.{none-some, map-none, map-some, some_inj}
+use Rattle.theory.specs.Reduction.{or_else, normal_step}
+use Rattle.theory.proofs.Options.{none-some}
 use Rattle.theory.proofs.WeakHead.{needs_arg}
 use Rattle.terms.specs.Words.{put}
-use Rattle.reduction.specs.Spines.{uses, head_term, top_step, strip, CalmTo}
-use Rattle.reduction.specs.Stepping.{RedexAt, FindsStep, frame}
+use Rattle.reduction.specs.Spines.{uses, top_step, strip, CalmTo}
+use Rattle.reduction.specs.Stepping.{RedexAt, frame}
 use Rattle.reduction.proofs.Putting.{behind, length-put}
 use Rattle.reduction.proofs.Finding.{Item, plain, last, orelse, words, within, ans, node, expand_pi, expand_lam, expand_need}
 use Rattle.reduction.proofs.Spreading.{twos, length_twos, others, unwind, unwind_words, hit_below}

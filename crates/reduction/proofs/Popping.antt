@@ -1,14 +1,13 @@
 -- The turns of the loop that finds the step at which a frame comes off the stack.
-use Rattle.std.proofs.Common.{◌≡◌, ℕ, zero, suc, ◌+◌, ◌-◌, ◌*◌, ◌<◌, ◌≤◌, Bool, true, false, ◌⊎◌, List, [], ◌∷◌, ◌++◌, length, drop, Some, None, Option as Maybe, sym, refl, ap, ◌∙◌, subst as tr, ap₂, inl, inr, arith}
-use mathlib.Core.Option.{some, none}
+use Rattle.std.proofs.Common.{◌≡◌, ℕ, suc, ◌+◌, ◌<◌, ◌≤◌, Bool, true, false, ◌⊎◌, List, length, drop, Some, None, Option as Maybe, sym, ap, ◌∙◌, subst as tr, inl, inr, arith}
 use Rattle.std.proofs.lemmas.List.{drop_at}
-use Rattle.theory.specs.Terms.{Term, app, size}
+use Rattle.theory.specs.Terms.{Term, app}
 use Rattle.theory.specs.Environment.{Env}
 use Rattle.theory.proofs.WeakHead.{needs_arg}
 use Rattle.terms.specs.Words.{put, At, Holds}
 use Rattle.reduction.specs.Store.{EnvAt}
 use Rattle.reduction.specs.Spines.{Fires}
-use Rattle.reduction.specs.Stepping.{FindsStep, frame, IsFrame, Findable}
+use Rattle.reduction.specs.Stepping.{frame, IsFrame, Findable}
 use Rattle.reduction.specs.declared.find.Frame.{Frame}
 use Rattle.reduction.proofs.Finding.{words}
 use Rattle.reduction.proofs.Passing.{Pass}

@@ -1,14 +1,12 @@
 -- The spine of a term, read off the words.
-use Rattle.std.proofs.Common.{◌≡◌, ℕ, zero, suc, ◌+◌, ◌-◌, ◌*◌, ◌<◌, ◌≤◌, Bool, true, false, eqb, List, [], ◌∷◌, length, get_or, drop, sym, refl, ap, ◌∙◌, subst as tr, ap₂, arith}
-use mathlib.Core.Option.{Option, some, none}
-use Rattle.theory.specs.Terms.{Head, h_def, h_data, h_con, h_rec, h_eq, h_refl, h_along, Term, var, const, sort, pi, lam, app, option, size}
-use Rattle.theory.specs.Environment.{Env, data_at, DataType, Entry}
-use Rattle.theory.specs.Reduction.{delta, needs_last}
+use Rattle.std.proofs.Common.{◌≡◌, ℕ, ◌+◌, ◌*◌, ◌≤◌, false, List, length, get_or, sym, refl, ◌∙◌, subst as tr, ap₂, arith}
+use mathlib.Core.Option.{some}
+use Rattle.theory.specs.Terms.{h_def, h_data, h_con, h_rec, h_eq, h_refl, h_along, Term, var, const, sort, pi, lam, app}
 use Rattle.terms.specs.Words.{At, Holds, root, put}
 use Rattle.terms.specs.declared.sign.Sign.{Sign}
-use Rattle.terms.specs.declared.sign.Sign.TheVariants.{Pi, Lam, App, Var, Sort, Def, Data, Con, Rec, Eq, Refl, Along}
+use Rattle.terms.specs.declared.sign.Sign.TheVariants.{Pi, Lam, Rec, Along}
 use Rattle.terms.proofs.Nodes.{tag}
-use Rattle.terms.proofs.Places.{at_three, at_length, holds_within}
+use Rattle.terms.proofs.Places.{at_three, holds_within}
 use Rattle.reduction.specs.Spines.{uses, head_term, head_of, is_lam, HeadAt}
 
 -- On the way down: at place, count applications below the term at `at`, stands s.

@@ -1,17 +1,13 @@
 -- A redex replaced by what it contracts to, and what stands behind it moved along.
-use Rattle.std.proofs.Common.{◌≡◌, ℕ, ◌+◌, ◌-◌, ◌*◌, ◌^◌, ◌<◌, ◌≤◌, ◌⊎◌, List, [], ◌∷◌, ◌++◌, length, take, drop, Some, None, Option as Maybe, sym, refl, ap, ◌∙◌, subst as tr, ap₂, inl, inr, append_assoc, append-nil, arith, length-append, length-drop, length-take}
-use mathlib.Core.Option.{Option, some, none}
-use Rattle.std.proofs.lemmas.List.{take-append-drop, length-take-le, take-take, drop-take, drop_at, take_at, take-append-le, drop-drop, take_all}
+use Rattle.std.proofs.Common.{◌≡◌, ℕ, ◌+◌, ◌-◌, ◌*◌, ◌^◌, ◌<◌, ◌≤◌, ◌⊎◌, List, [], ◌++◌, length, take, drop, sym, refl, ap, ◌∙◌, ap₂, inl, inr, append_assoc, arith, length-append, length-drop, length-take}
+use Rattle.std.proofs.lemmas.List.{length-take-le, drop-take, drop_at, take_at}
 use Rattle.theory.specs.Terms.{Term, size}
 use Rattle.theory.specs.Environment.{Env}
-use Rattle.theory.specs.Reduction.{normal_step}
 use Rattle.terms.specs.Words.{put, At, Small}
 use Rattle.terms.specs.Writing.{Appends}
-use Rattle.terms.proofs.Nodes.{put_append, put-length, put_one, size-parts, scoped_small}
-use Rattle.terms.proofs.Appending.{append_as, append_then}
-use Rattle.reduction.specs.Store.{EnvAt}
-use Rattle.reduction.specs.Spines.{top_step}
-use Rattle.reduction.specs.Stepping.{Stands, Ready, RedexAt, Contractible, Replaceable, Replaces, Findable}
+use Rattle.terms.proofs.Nodes.{put_append, put-length, scoped_small}
+use Rattle.terms.proofs.Appending.{append_as}
+use Rattle.reduction.specs.Stepping.{Stands, Ready, RedexAt, Contractible, Findable}
 use Rattle.reduction.proofs.Standing.{stands_in, stands_here, stands_front}
 use Rattle.reduction.proofs.Staying.{stays_now}
 use Rattle.reduction.proofs.Within.{small_inside}

@@ -1,17 +1,15 @@
 -- The pass that finds the normal-order step: what a frame makes of its state, and its end.
-use Rattle.std.proofs.Common.{◌≡◌, ℕ, zero, suc, ◌+◌, ◌-◌, ◌*◌, ◌<◌, ◌≤◌, Bool, true, false, cond, eqb, ◌⊎◌, List, [], ◌∷◌, ◌++◌, length, Some, None, Option as Maybe, sym, refl, ap, ◌∙◌, subst as tr, ap₂, inl, inr, append_assoc, append-nil, arith, length-append}
+use Rattle.std.proofs.Common.{◌≡◌, ℕ, suc, ◌+◌, ◌*◌, ◌<◌, ◌≤◌, true, ◌⊎◌, List, [], ◌∷◌, ◌++◌, length, Some, None, Option as Maybe, sym, refl, ap, ◌∙◌, subst as tr, inl, inr, arith}
 use mathlib.Core.Option.{Option, some, none}
-use Rattle.theory.specs.Terms.{Head, Term, var, const, sort, pi, lam, app, size}
+use Rattle.theory.specs.Terms.{Term, var, const, sort, pi, lam, app, size}
 use Rattle.theory.specs.Environment.{Env}
-use Rattle.theory.specs.Reduction.{or_else, map_option, contract, delta, normal_step}
-use Rattle.theory.proofs.Options.{none-some, map-none, map-some, some_inj}
+use Rattle.theory.specs.Reduction.{or_else, contract, normal_step}
+use Rattle.theory.proofs.Options.{map-none, map-some}
 use Rattle.theory.proofs.WeakHead.{needs_arg}
 use Rattle.terms.specs.Words.{put}
-use Rattle.reduction.specs.Spines.{uses, head_term, top_step, strip, CalmTo}
 use Rattle.reduction.specs.Stepping.{RedexAt, FindsStep, frame}
-use Rattle.reduction.proofs.Putting.{behind, length-put}
-use Rattle.reduction.proofs.Finding.{Item, plain, last, orelse, words, within, ans, node, expand_pi, expand_lam, expand_need}
-use Rattle.reduction.proofs.Spreading.{twos, length_twos, others, unwind, unwind_words, hit_below}
+use Rattle.reduction.proofs.Putting.{length-put}
+use Rattle.reduction.proofs.Finding.{Item, plain, last, orelse, words, within, ans}
 use Rattle.reduction.proofs.Passing.{Waiting, Candidate, nodes_to_come, words_long, Pass}
 
 -- A frame comes next: a last argument, or an earlier find.

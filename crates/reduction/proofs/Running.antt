@@ -1,22 +1,20 @@
 -- Reducing step by step in place: the state of the loop.
-use Rattle.std.proofs.Common.{◌≡◌, ℕ, suc, ◌+◌, ◌-◌, ◌*◌, ◌^◌, ◌<◌, ◌≤◌, Bool, true, false, ◌⊎◌, List, [], ◌∷◌, ◌++◌, length, take, drop, Some, sym, refl, ap, ◌∙◌, subst as tr, ap₂, inl, inr, arith}
-use mathlib.Core.Option.{Option, some, none}
+use Rattle.std.proofs.Common.{◌≡◌, ℕ, suc, ◌+◌, ◌-◌, ◌*◌, ◌<◌, ◌≤◌, Bool, true, false, ◌⊎◌, List, [], ◌++◌, length, take, Some, sym, refl, ap, ◌∙◌, subst as tr, inl, inr, arith}
+use mathlib.Core.Option.{some, none}
 use Rattle.theory.specs.Terms.{Term, size}
 use Rattle.theory.specs.Environment.{DataType, Env, data_at}
-use Rattle.theory.specs.Reduction.{normal_step, normal_steps, bind}
-use Rattle.theory.specs.Typing.{FirstReduct}
+use Rattle.theory.specs.Reduction.{normal_step, normal_steps}
 use Rattle.theory.proofs.NormalForms.{Going, going_start, going_on}
 use Rattle.terms.specs.Words.{put}
 use Rattle.terms.specs.Writing.{Appends}
 use Rattle.terms.proofs.Nodes.{put-length}
 use Rattle.terms.proofs.Appending.{append_keeps}
 use Rattle.reduction.specs.Store.{EnvAt}
-use Rattle.reduction.specs.Stepping.{Stands, Ready, StepsTo, HasStep}
-use Rattle.reduction.specs.Aims.{is_none, domain_rests_lem, meets, Met, Reduces, resting}
+use Rattle.reduction.specs.Stepping.{Stands, Ready, HasStep}
+use Rattle.reduction.specs.Aims.{is_none, meets, Met, Reduces, resting}
 use Rattle.reduction.specs.declared.reduce.Aim.{Aim}
 use Rattle.reduction.specs.declared.reduce.Aim.TheVariants.{ToNormal, ToPi, ToSort, ToDomain}
-use Rattle.reduction.specs.declared.reduce.Reduced.{Reduced}
-use Rattle.reduction.specs.declared.reduce.Reduced.TheVariants.{Reached, Resting, UsedUp, NoRoom, NotYet}
+use Rattle.reduction.specs.declared.reduce.Reduced.TheVariants.{Reached, UsedUp, NoRoom, NotYet}
 use Rattle.reduction.proofs.Standing.{stands_in}
 use Rattle.reduction.proofs.Staying.{stays_on}
 

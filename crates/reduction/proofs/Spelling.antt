@@ -1,14 +1,14 @@
 -- The words of a spine: so many applications, the head, the arguments in a row. What a redex contracts to, in words.
-use Rattle.std.proofs.Common.{◌≡◌, ℕ, zero, suc, ◌+◌, ◌-◌, ◌*◌, ◌^◌, ◌<◌, ◌≤◌, List, [], ◌∷◌, ◌++◌, length, drop, sym, refl, ap, ◌∙◌, subst as tr, ap₂, arith, length-drop}
-use mathlib.Core.Option.{Option, some, none}
+use Rattle.std.proofs.Common.{◌≡◌, ℕ, zero, suc, ◌+◌, ◌*◌, ◌≤◌, List, [], ◌∷◌, ◌++◌, length, drop, sym, refl, ap, ◌∙◌, subst as tr, arith, length-drop}
+use mathlib.Core.Option.{some}
 use lib.ListN.{get_elem?}
 use Rattle.std.proofs.lemmas.List.{drop-drop, drop_at}
-use Rattle.theory.specs.Terms.{Head, h_def, h_data, h_con, h_rec, h_eq, h_refl, h_along, Term, var, const, sort, pi, lam, app, size, subst}
+use Rattle.theory.specs.Terms.{Head, h_def, h_data, h_con, h_rec, h_eq, h_refl, h_along, Term, var, const, sort, pi, lam, app, subst}
 use Rattle.theory.specs.Environment.{DataType, Env, data_at}
 use Rattle.theory.specs.Reduction.{spine, contract}
 use Rattle.theory.proofs.Options.{none-some, some_inj}
 use Rattle.theory.proofs.Iota.{AlongView, IotaView, by_rec, by_along, iota_view, contract-some}
-use Rattle.terms.specs.Words.{put, puts, At, Holds, root}
+use Rattle.terms.specs.Words.{put, puts, At, root}
 use Rattle.terms.specs.declared.sign.Sign.{Sign}
 use Rattle.terms.specs.declared.sign.Sign.TheVariants.{Lam, App, Def, Along}
 use Rattle.terms.proofs.Nodes.{puts-length, length-sizes}

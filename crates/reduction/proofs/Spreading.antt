@@ -1,14 +1,14 @@
 -- A spine expands into its head and its arguments, as far as nothing on the way is a redex or looks at its last argument.
-use Rattle.std.proofs.Common.{◌≡◌, ℕ, zero, suc, ◌+◌, ◌-◌, ◌*◌, ◌<◌, ◌≤◌, Bool, true, false, cond, eqb, ◌⊎◌, List, [], ◌∷◌, ◌++◌, length, sym, refl, ap, ◌∙◌, ap₂, inl, inr, append_assoc, append-nil, arith, length-append, ne_eqb}
+use Rattle.std.proofs.Common.{◌≡◌, ℕ, zero, suc, ◌+◌, ◌*◌, ◌<◌, ◌≤◌, false, ◌⊎◌, List, [], ◌∷◌, ◌++◌, length, sym, refl, ap, ◌∙◌, ap₂, inl, inr, append_assoc, append-nil, arith}
 use mathlib.Core.Option.{Option, some, none}
-use Rattle.theory.specs.Terms.{Head, h_def, h_data, h_con, h_rec, h_eq, h_refl, h_along, Term, var, const, sort, pi, lam, app, option, size}
+use Rattle.theory.specs.Terms.{Head, h_def, h_data, h_con, h_rec, h_eq, h_refl, h_along, Term, var, const, sort, pi, lam, app, option}
 use Rattle.theory.specs.Environment.{Env, data_at}
-use Rattle.theory.specs.Reduction.{or_else, map_option, bind, Spine, spine, contract, beta, iota_head, delta, needs_last, normal_step}
-use Rattle.theory.proofs.Options.{false-true, true-false, cases_option, cases_bool}
+use Rattle.theory.specs.Reduction.{or_else, bind, spine, beta, iota_head, needs_last, normal_step}
+use Rattle.theory.proofs.Options.{true-false, cases_option}
 use Rattle.theory.proofs.WeakHead.{needs_arg}
 use Rattle.terms.specs.Words.{put}
-use Rattle.reduction.specs.Spines.{uses, head_term, head_of, wants, Wants, is_lam, strip, CalmApp, CalmTo}
-use Rattle.reduction.proofs.Finding.{Item, plain, last, orelse, words, within, ans, node, value_parts, calm_parts, expand_app}
+use Rattle.reduction.specs.Spines.{uses, head_term, head_of, wants, is_lam, strip, CalmApp, CalmTo}
+use Rattle.reduction.proofs.Finding.{Item, plain, words, within, ans, node, value_parts, calm_parts, expand_app}
 
 -- So many applications.
 abbrev pub twos : ℕ → List ℕ

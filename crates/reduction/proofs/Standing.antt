@@ -1,7 +1,7 @@
 -- A term that stands from a place to its end.
-use Rattle.std.proofs.Common.{◌≡◌, ℕ, ◌+◌, ◌-◌, ◌*◌, ◌<◌, ◌≤◌, min, List, [], ◌∷◌, ◌++◌, length, take, drop, sym, refl, ap, ◌∙◌, subst as tr, ap₂, append_assoc, arith, length-append, length-take}
+use Rattle.std.proofs.Common.{◌≡◌, ℕ, ◌-◌, ◌≤◌, List, [], ◌++◌, length, take, drop, sym, ap, ◌∙◌, append_assoc, arith, length-append, length-take}
 use Rattle.std.proofs.lemmas.List.{take-append-drop, length-take-le}
-use Rattle.theory.specs.Terms.{Term, size}
+use Rattle.theory.specs.Terms.{Term}
 use Rattle.terms.specs.Words.{put}
 use Rattle.terms.proofs.Nodes.{put_append, put-length, size-parts}
 use Rattle.reduction.specs.Stepping.{Stands, Ready, Findable}

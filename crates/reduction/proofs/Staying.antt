@@ -1,9 +1,9 @@
 -- What a typed term reduces to has no more free variables than its context has names.
-use Rattle.std.proofs.Common.{◌≡◌, ℕ, zero, suc, ◌+◌, List, length, sym, refl, ap, ◌∙◌, subst as tr, arith}
-use mathlib.Core.Option.{Option, some, none}
+use Rattle.std.proofs.Common.{◌≡◌, ℕ, zero, suc, ◌+◌, List, length, refl, ◌∙◌, subst as tr}
+use mathlib.Core.Option.{some}
 use Rattle.theory.specs.Terms.{Term}
 use Rattle.theory.specs.Environment.{Env}
-use Rattle.theory.specs.Reduction.{normal_step, normal_steps, bind}
+use Rattle.theory.specs.Reduction.{normal_step, normal_steps}
 use Rattle.theory.specs.Typing.{HasType, WfEnv, WfContext}
 use Rattle.theory.proofs.Closed.{Scoped, typed_scoped}
 use Rattle.theory.proofs.Options.{some_inj, bind-some}

@@ -1,18 +1,18 @@
 -- What the words of the table and the store say of the entry with a number.
-use Rattle.std.proofs.Common.{◌≡◌, ℕ, zero, suc, ◌+◌, ◌-◌, ◌*◌, ◌/◌, ◌%◌, ◌<◌, ◌≤◌, List, [], ◌∷◌, ◌++◌, length, get_or, drop, sym, refl, ap, ◌∙◌, subst as tr, ap₂, arith, length-drop}
+use Rattle.std.proofs.Common.{◌≡◌, ℕ, zero, suc, ◌+◌, ◌*◌, ◌/◌, ◌%◌, ◌<◌, ◌≤◌, List, [], ◌∷◌, length, get_or, drop, sym, refl, ap, ◌∙◌, subst as tr, ap₂, arith, length-drop}
 use mathlib.Core.Option.{Option, some, none}
 use lib.ListN.{get_elem?}
 use Rattle.std.proofs.lemmas.List.{get_or-drop, drop-drop}
-use Rattle.theory.specs.Terms.{Term, size, option}
+use Rattle.theory.specs.Terms.{size, option}
 use Rattle.theory.specs.Environment.{Constructor, DataType, Entry, defined, assumed, inductive, Env, entry_data, data_at}
 use Rattle.theory.proofs.Options.{none-some, some_inj}
 use Rattle.terms.specs.Words.{put, puts, At}
 use Rattle.terms.proofs.Nodes.{join, put-length}
 use Rattle.terms.proofs.Places.{Three, three, at_behind}
 use Rattle.reduction.specs.Store.{put_counts, put_fields, put_entry, place, EntryAt, EnvAt, Stored}
-use Rattle.reduction.specs.Lookup.{StandsAt, Finds, FindsPlace}
+use Rattle.reduction.specs.Lookup.{Finds}
 use Rattle.reduction.specs.declared.store.Found.{Found}
-use Rattle.reduction.specs.declared.store.Found.TheVariants.{Missing, Definition, Axiom, Inductive}
+use Rattle.reduction.specs.declared.store.Found.TheVariants.{Definition, Axiom, Inductive}
 
 -- An element beyond the end, and one before it.
 pub get_past : {A : Type 0} (xs : List A) (i : ℕ) → length xs ≤ i → get_elem? xs i ≡ none

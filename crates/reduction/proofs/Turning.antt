@@ -1,21 +1,19 @@
 -- The loop that finds the step: its state, and one lemma for each of its turns.
-use Rattle.std.proofs.Common.{◌≡◌, ℕ, zero, suc, ◌+◌, ◌-◌, ◌*◌, ◌<◌, ◌≤◌, ◌⊎◌, List, [], ◌∷◌, ◌++◌, length, drop, Some, None, Option as Maybe, sym, refl, ap, ◌∙◌, subst as tr, ap₂, inl, inr, arith, length-append, length-drop}
-use mathlib.Core.Option.{some, none}
-use Rattle.std.proofs.lemmas.List.{drop_at, drop-drop, drop_all}
-use Rattle.theory.specs.Terms.{Term, app, size, pi, lam}
+use Rattle.std.proofs.Common.{◌≡◌, ℕ, suc, ◌+◌, ◌-◌, ◌*◌, ◌<◌, ◌≤◌, List, [], ◌∷◌, ◌++◌, length, drop, Some, None, Option as Maybe, sym, ap, ◌∙◌, subst as tr, inl, inr, arith, length-append}
+use Rattle.std.proofs.lemmas.List.{drop_at, drop_all}
+use Rattle.theory.specs.Terms.{Term, size}
 use Rattle.theory.specs.Environment.{Env}
-use Rattle.theory.proofs.WeakHead.{needs_arg}
-use Rattle.terms.specs.Words.{put, number, At, Holds}
+use Rattle.terms.specs.Words.{put, At, Holds}
 use Rattle.terms.proofs.Nodes.{size-parts}
 use Rattle.reduction.specs.Store.{EnvAt, Stored}
-use Rattle.reduction.specs.Spines.{uses, strip, Looks, Fires}
-use Rattle.reduction.specs.Stepping.{RedexAt, FindsStep, frame, FramePushed, IsFrame, Findable}
+use Rattle.reduction.specs.Spines.{Looks}
+use Rattle.reduction.specs.Stepping.{frame, Findable}
 use Rattle.reduction.specs.declared.spine.Look.{Look}
 use Rattle.reduction.specs.declared.spine.Look.TheVariants.{Leaf, Pair, Redex, Spread, Needs}
 use Rattle.reduction.proofs.Putting.{length-put}
 use Rattle.reduction.proofs.Finding.{words}
 use Rattle.reduction.proofs.Passing.{Pass, Next, start, next, by_normal, by_found, in_pi, in_lam, hit_at, spread, need}
-use Rattle.reduction.proofs.Resuming.{LastNext, OrNext, frame_next, fires, stays, keeps, again_none, again_some, end_found, end_none, few}
+use Rattle.reduction.proofs.Resuming.{few}
 
 -- For every environment and term that stand there, the pass is in this state; and how much of the stack is in use.
 abbrev pub Passes : (index store heap : List ℕ) (at place before : ℕ) (hit : Maybe ℕ) (frames : List ℕ) → Type 0

@@ -1,7 +1,7 @@
 -- A term that stands within another one has its indices.
-use Rattle.std.proofs.Common.{◌≡◌, ℕ, zero, suc, ◌+◌, ◌*◌, ◌≤◌, List, [], ◌∷◌, ◌++◌, length, drop, sym, refl, ap, ◌∙◌, subst as tr, arith}
+use Rattle.std.proofs.Common.{◌≡◌, ℕ, zero, suc, ◌+◌, ◌*◌, List, [], ◌∷◌, ◌++◌, length, drop, sym, refl, ap, ◌∙◌, subst as tr, arith}
 use Rattle.std.proofs.lemmas.List.{drop-drop, drop_all, drop_at}
-use Rattle.theory.specs.Terms.{Term, size}
+use Rattle.theory.specs.Terms.{Term}
 use Rattle.terms.specs.Words.{put, puts, Small, parts}
 use Rattle.terms.proofs.Nodes.{EachSmall, small_parts, row_words, put_one, put-length, size-parts}
 

@@ -2,8 +2,8 @@
 use Rattle.std.specs.Prelude.{◌≡◌, ℕ, ◌+◌, ◌*◌, ◌<◌, ◌⊎◌, List, [], ◌∷◌, ◌++◌, length, take, Some, None, Option as Maybe}
 use Rattle.std.proofs.Math.Option.{Option, some, none}
 use Rattle.std.proofs.Math.ListN.{get_elem?}
-use Rattle.theory.specs.Terms.{Term, size, option}
-use Rattle.theory.specs.Environment.{Constructor, DataType, Entry, defined, assumed, inductive, Env, entry_data, data_at}
+use Rattle.theory.specs.Terms.{Term, option}
+use Rattle.theory.specs.Environment.{Constructor, DataType, Entry, defined, assumed, inductive, Env}
 use Rattle.terms.specs.Words.{At}
 use Rattle.terms.specs.Writing.{Appends}
 use Rattle.reduction.specs.Store.{EntryAt, EnvAt}

@@ -1,17 +1,16 @@
 -- What one normal-order step in place promises.
-use Rattle.std.specs.Prelude.{◌≡◌, ℕ, ◌+◌, ◌*◌, ◌^◌, ◌<◌, ◌≤◌, Bool, true, false, ◌⊎◌, List, [], ◌∷◌, ◌++◌, length, take, drop, Some, None, Option as Maybe}
-use Rattle.std.proofs.Math.Option.{Option, some, none}
+use Rattle.std.specs.Prelude.{◌≡◌, ℕ, ◌+◌, ◌*◌, ◌^◌, ◌<◌, ◌≤◌, Bool, true, false, ◌⊎◌, List, [], ◌++◌, length, take, drop, Some, None, Option as Maybe}
+use Rattle.std.proofs.Math.Option.{some, none}
 use Rattle.std.proofs.Math.ListN.{get_elem?}
-use Rattle.theory.specs.Terms.{Head, h_along, Term, var, const, sort, pi, lam, app, size}
+use Rattle.theory.specs.Terms.{h_along, Term, lam, app, size}
 use Rattle.theory.specs.Environment.{DataType, Entry, Env, data_at}
-use Rattle.theory.specs.Reduction.{contract, delta, normal_step, normal_steps}
+use Rattle.theory.specs.Reduction.{contract, normal_step, normal_steps}
 use Rattle.theory.proofs.Closed.{Scoped, ClosedEntry}
 use Rattle.terms.specs.Words.{put, puts, number, At, Small}
 use Rattle.terms.specs.Writing.{Appends}
 use Rattle.reduction.specs.Store.{EnvAt}
 use Rattle.reduction.specs.Spines.{top_step, head_term, head_of}
 use Rattle.reduction.specs.declared.find.Frame.{Frame}
-use Rattle.terms.specs.Copying.{Copies}
 use Rattle.terms.specs.declared.copy.Copied.{Copied}
 use Rattle.terms.specs.declared.copy.Copied.TheVariants as copied
 use Rattle.reduction.specs.declared.make.Made.{Made}

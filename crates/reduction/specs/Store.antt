@@ -1,11 +1,10 @@
 -- The environment in words: an index table of places, two words each, and a store of entries.
-use Rattle.std.specs.Prelude.{◌≡◌, ℕ, ◌+◌, ◌*◌, ◌/◌, ◌%◌, ◌≤◌, List, [], ◌∷◌, length, drop, slice_index}
-use Rattle.std.proofs.Math.Option.{Option, some, none}
+use Rattle.std.specs.Prelude.{◌≡◌, ℕ, ◌+◌, ◌*◌, ◌/◌, ◌%◌, List, [], ◌∷◌, length, drop, slice_index}
+use Rattle.std.proofs.Math.Option.{some}
 use Rattle.std.proofs.Math.ListN.{get_elem?}
-use Rattle.theory.specs.Terms.{Term, size}
-use Rattle.theory.specs.Environment.{Constructor, DataType, Entry, defined, assumed, inductive, Env}
+use Rattle.theory.specs.Terms.{size}
+use Rattle.theory.specs.Environment.{Constructor, Entry, defined, assumed, inductive, Env}
 use Rattle.terms.specs.Words.{put, puts}
-use Rattle.theory.proofs.Closed.{Scoped}
 
 -- The two numbers of each constructor: fields, recursive fields.
 abbrev pub put_counts : List Constructor → List ℕ → List ℕ

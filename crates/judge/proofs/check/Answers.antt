@@ -1,8 +1,6 @@
 use mathlib.Core.Path.{◌≡◌, refl, sym}
-use Prim.Native.Nat.{ℕ, ◌+◌, ◌*◌, ◌/◌, ◌-◌, ◌<◌, ◌≤◌}
+use Prim.Native.Nat.{ℕ}
 use native.Mathlib.Omega.{arith}
-use lib.ListN.{length}
-use Rattle.judge.specs.declared.Checked.{Checked}
 use Rattle.judge.specs.declared.Checked.TheVariants.{NotYet, NoText, Few}
 use Rattle.syntax.proofs.OneReading.{one_reading}
 use Rattle.judge.proofs.check.Goals as goal

@@ -1,4 +1,4 @@
-use Rattle.std.proofs.Common.{◌≡◌, sym, ◌∙◌, arith}
+use Rattle.std.proofs.Common.{sym, ◌∙◌, arith}
 use Rattle.checker.proofs.Counting.{zero_next, zero_not, zero_end}
 use Rattle.checker.proofs.tally.are_zero.Goals as goal
 

@@ -1,4 +1,4 @@
-use Rattle.std.proofs.Common.{◌≡◌, ℕ, ◌+◌, drop, sym, ap, ◌∙◌}
+use Rattle.std.proofs.Common.{ℕ, ◌+◌, drop, sym, ap, ◌∙◌}
 use Rattle.checker.specs.Tallies.{sum_from}
 use Rattle.checker.proofs.Counting.{sum_next, sum_end}
 use Rattle.checker.proofs.tally.sum_of.Goals as goal

@@ -1,5 +1,4 @@
-use Rattle.std.proofs.Common.{◌≡◌, sym, subst as tr, inl, inr, arith}
-use Rattle.theory.specs.Terms.{Term}
+use Rattle.std.proofs.Common.{sym, subst as tr, inl, inr, arith}
 use Rattle.theory.proofs.NormalForms.{NormalForm}
 use Rattle.kernel.proofs.Reduced.{stands_within}
 use Rattle.kernel.proofs.Tops.{appended_stands}

@@ -1,10 +1,6 @@
-use Rattle.std.proofs.Common.{◌≡◌, ℕ, ◌+◌, ◌*◌, ◌≤◌, length, sym, subst as tr, arith}
-use Rattle.theory.specs.Terms.{Term, pi, size}
+use Rattle.std.proofs.Common.{length, arith}
 use Rattle.theory.proofs.Closed.{typed_scoped}
-use Rattle.terms.specs.Words.{At, put}
-use Rattle.terms.proofs.Places.{at_same}
-use Rattle.terms.proofs.Subterms.{at_pi_domain, holds_small}
-use Rattle.kernel.specs.Resting.{FullPair}
+use Rattle.terms.proofs.Subterms.{holds_small}
 use Rattle.kernel.proofs.Backs.{type_scoped, closed_env, top_view}
 use Rattle.kernel.proofs.Moves.{walk_short, top_within}
 use Rattle.kernel.proofs.Arguments.{applied, pi_within, frame_seven, place_read, kept_read, steps_read, domain_scoped, domain_at, domain_below, function_at, argument_read}

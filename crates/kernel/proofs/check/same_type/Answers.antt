@@ -1,5 +1,5 @@
 use Rattle.std.proofs.Common.{arith}
-use Rattle.terms.proofs.Places.{at_kept, written_end}
+use Rattle.terms.proofs.Places.{at_kept}
 use Rattle.kernel.proofs.Reduced.{stands_within}
 use Rattle.kernel.proofs.Tops.{appended_stands, appended_within}
 use Rattle.kernel.proofs.Agreeing.{stands_at}

@@ -1,7 +1,6 @@
-use Rattle.std.proofs.Common.{◌≡◌, sym, subst as tr, arith}
-use Rattle.terms.specs.Words.{Holds}
+use Rattle.std.proofs.Common.{sym, subst as tr, arith}
 use Rattle.terms.proofs.Places.{holds_within}
-use Rattle.kernel.specs.Turns.{Before, Turned}
+use Rattle.kernel.specs.Turns.{Turned}
 use Rattle.kernel.proofs.Places.{walk_core}
 use Rattle.kernel.proofs.Views.{view, core_rest}
 use Rattle.kernel.proofs.Moves.{before_at, frame-room, down_pi, down_lam, down_app, top_within, context_fits}

@@ -1,4 +1,4 @@
-use Rattle.std.proofs.Common.{sym, subst as tr, arith}
+use Rattle.std.proofs.Common.{subst as tr, arith}
 use Rattle.kernel.specs.Turns.{Turned}
 use Rattle.kernel.proofs.Beginning.{begins_before, behind_end}
 use Rattle.kernel.proofs.infer.infer.Goals as goal

@@ -1,4 +1,4 @@
-use Rattle.std.proofs.Common.{◌+◌, ◌<◌, ◌≤◌, length, ap, inl, inr, arith}
+use Rattle.std.proofs.Common.{◌+◌, ap, inl, inr, arith}
 use Rattle.theory.specs.Reduction.{map_option}
 use Rattle.theory.specs.Terms.{lift}
 use Rattle.terms.proofs.Nodes.{small_more}

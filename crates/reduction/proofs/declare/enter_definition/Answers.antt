@@ -1,4 +1,4 @@
-use Rattle.std.proofs.Common.{◌≡◌, ℕ, ◌+◌, ◌-◌, ◌*◌, List, [], ◌∷◌, ap, arith}
+use Rattle.std.proofs.Common.{◌≡◌, ℕ, ◌+◌, ◌-◌, ◌*◌, [], ◌∷◌, ap, arith}
 use Rattle.theory.specs.Environment.{defined}
 use Rattle.theory.specs.Terms.{size}
 use Rattle.terms.specs.Words.{put, number}

@@ -1,4 +1,4 @@
-use Rattle.std.proofs.Common.{◌≡◌, ◌+◌, ◌-◌, ◌*◌, ◌<◌, ◌≤◌, length, drop, Some, None, sym, subst as tr, arith, length-drop}
+use Rattle.std.proofs.Common.{◌+◌, ◌-◌, ◌*◌, length, drop, Some, None, sym, subst as tr, arith, length-drop}
 use Rattle.std.proofs.lemmas.List.{drop-drop}
 use Rattle.reduction.specs.Stepping.{frame}
 use Rattle.reduction.proofs.Turning.{Passes, starts, bounds, stored, holds_next, skips, skipped, leafs, pairs, hits, spreads, spread_some, needs_one, needs_order, positive_before}

@@ -1,4 +1,4 @@
-use Rattle.std.proofs.Common.{◌≡◌, length, sym, ap, ◌∙◌, subst as tr, arith}
+use Rattle.std.proofs.Common.{length, sym, ◌∙◌, subst as tr, arith}
 use Rattle.theory.specs.Terms.{app}
 use Rattle.terms.specs.Words.{put, At}
 use Rattle.terms.specs.Copying.{Copies}

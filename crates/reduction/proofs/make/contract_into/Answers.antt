@@ -1,4 +1,4 @@
-use Rattle.std.proofs.Common.{◌≡◌, length, sym, ap, ◌∙◌, subst as tr, arith}
+use Rattle.std.proofs.Common.{◌≡◌, length, sym, ◌∙◌, subst as tr}
 use mathlib.Core.Option.{some}
 use Rattle.terms.specs.Words.{At, Small}
 use Rattle.reduction.specs.Spines.{top_step}

@@ -1,5 +1,4 @@
 use Rattle.std.proofs.Common.{arith}
-use Rattle.terms.specs.Words.{put}
 use Rattle.terms.proofs.Places.{at_length}
 use Rattle.reduction.proofs.Making.{domain_at, body_at, argument_at}
 use Rattle.reduction.proofs.make.make_beta.Goals as goal

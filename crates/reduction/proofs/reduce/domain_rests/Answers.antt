@@ -1,4 +1,4 @@
-use Rattle.std.proofs.Common.{◌≡◌, ◌+◌, ◌≤◌, ◌++◌, length, sym, refl, ap, ◌∙◌, arith, rules}
+use Rattle.std.proofs.Common.{◌+◌, ◌≤◌, ◌++◌, length, sym, ap, ◌∙◌, rules}
 use Rattle.terms.specs.Words.{put}
 use Rattle.reduction.specs.Aims.{is_none}
 use Rattle.reduction.proofs.Finding.{node}

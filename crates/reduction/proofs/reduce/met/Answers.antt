@@ -1,4 +1,4 @@
-use Rattle.std.proofs.Common.{◌≡◌, ◌+◌, ◌≤◌, eqb, length, get_or, sym, refl, ap, ◌∙◌, subst as tr, arith, rules}
+use Rattle.std.proofs.Common.{◌+◌, ◌≤◌, eqb, length, get_or, sym, subst as tr, rules}
 use Rattle.reduction.specs.Aims.{Met}
 use Rattle.reduction.proofs.Aiming.{three_words, met_pi, met_sort}
 use Rattle.reduction.proofs.reduce.met.Goals as goal

@@ -1,4 +1,4 @@
-use Rattle.std.proofs.Common.{◌≡◌, ◌<◌, length, take, drop, sym, refl, ap, ◌∙◌, subst as tr, arith, rules}
+use Rattle.std.proofs.Common.{◌<◌, length, take, drop, sym, refl, ◌∙◌, subst as tr, arith}
 use Rattle.reduction.specs.Aims.{Reduces}
 use Rattle.reduction.proofs.Standing.{findable, stands_here, stands_front}
 use Rattle.reduction.proofs.Running.{run_on, normal_kept, run_reached, run_short, run_rests, run_full, run_shallow, run_used, shorter, more_steps, no_steps}

@@ -1,4 +1,4 @@
-use Rattle.std.proofs.Common.{arith, rules}
+use Rattle.std.proofs.Common.{arith}
 use Rattle.reduction.proofs.Reading.{down_start, down_on, down_end}
 use Rattle.reduction.proofs.spine.count_uses.Goals as goal
 

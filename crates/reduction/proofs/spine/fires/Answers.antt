@@ -1,4 +1,4 @@
-use Rattle.std.proofs.Common.{◌≡◌, sym, refl, ap, ◌∙◌, arith}
+use Rattle.std.proofs.Common.{sym, ◌∙◌}
 use Rattle.theory.specs.Terms.{app}
 use Rattle.reduction.proofs.Reading.{rec_head, along_head}
 use Rattle.reduction.proofs.Firing.{rec_fires, along_fires, other_fires}

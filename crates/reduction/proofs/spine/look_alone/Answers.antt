@@ -1,4 +1,4 @@
-use Rattle.std.proofs.Common.{◌≡◌, sym, refl, ap, ◌∙◌, inl, inr, arith}
+use Rattle.std.proofs.Common.{sym, ◌∙◌, inl, inr}
 use Rattle.reduction.proofs.Reading.{from_pi, from_lam}
 use Rattle.reduction.proofs.Looking.{look_alone}
 use Rattle.reduction.proofs.spine.look_alone.Goals as goal

@@ -1,4 +1,4 @@
-use Rattle.std.proofs.Common.{◌≡◌, sym, refl, ap, ◌∙◌, inl, inr, arith}
+use Rattle.std.proofs.Common.{sym, ◌∙◌, inl, inr, arith}
 use Rattle.reduction.specs.Spines.{head_term}
 use Rattle.reduction.proofs.Reading.{from_lam, no_lam}
 use Rattle.reduction.proofs.Looking.{look_lam, look_def, look_spread, look_needs}

@@ -1,6 +1,6 @@
-use Rattle.std.proofs.Common.{◌≡◌, ◌+◌, ◌*◌, length, take, drop, sym, ap, ◌∙◌, subst as tr, inl, inr, arith}
+use Rattle.std.proofs.Common.{◌+◌, ◌*◌, inl, inr, arith}
 use Rattle.theory.specs.Terms.{size}
-use Rattle.reduction.proofs.Replacing.{new_length, replaced, behind-length}
+use Rattle.reduction.proofs.Replacing.{new_length, behind-length}
 use Rattle.reduction.proofs.step.replace.Goals as goal
 
 pub returns-then-scratch-made : goal.returns-then-scratch-made

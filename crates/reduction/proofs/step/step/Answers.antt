@@ -1,5 +1,4 @@
-use Rattle.std.proofs.Common.{◌≡◌, ◌+◌, ◌-◌, ◌*◌, ◌≤◌, [], length, take, drop, sym, refl, ap, ◌∙◌, subst as tr, inl, inr, arith, rules}
-use Rattle.theory.specs.Terms.{size}
+use Rattle.std.proofs.Common.{◌+◌, ◌≤◌, [], length, refl, inr, arith, rules}
 use Rattle.reduction.proofs.Standing.{stands_in}
 use Rattle.reduction.proofs.Replacing.{slice_is, slice_findable, slice_contractible, redex_there, heap_at, redex_ends, stepped_words, too_long, result_size, unstepped, made_within}
 use Rattle.reduction.proofs.step.step.Goals as goal

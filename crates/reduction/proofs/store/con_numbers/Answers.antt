@@ -1,4 +1,4 @@
-use Rattle.std.proofs.Common.{◌≡◌, ap, ◌∙◌, arith}
+use Rattle.std.proofs.Common.{ap, ◌∙◌, arith}
 use mathlib.Core.Option.{Option}
 use Rattle.theory.specs.Environment.{DataType}
 use Rattle.reduction.specs.Lookup.{con_at}

@@ -1,8 +1,8 @@
-use Rattle.std.proofs.Common.{◌≡◌, ◌+◌, ◌*◌, ◌<◌, ◌≤◌, length, get_or, sym, ap, ◌∙◌, subst as tr, arith, rules}
+use Rattle.std.proofs.Common.{◌+◌, sym, subst as tr, arith, rules}
 use mathlib.Core.Option.{some}
 use Rattle.reduction.specs.Lookup.{Finds}
 use Rattle.reduction.proofs.Storing.{beyond, room, room_body, finds_at, found_definition, found_axiom, found_data}
-use Rattle.reduction.specs.declared.store.Found.TheVariants.{Missing, Definition, Axiom, Inductive}
+use Rattle.reduction.specs.declared.store.Found.TheVariants.{Definition, Axiom, Inductive}
 use Rattle.reduction.proofs.store.find_entry.Goals as goal
 
 pub returns-then-index-i : goal.returns-then-index-i

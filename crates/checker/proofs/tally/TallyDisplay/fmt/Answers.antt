@@ -1,4 +1,4 @@
-use Rattle.std.proofs.Common.{◌≡◌, ℕ, is_ok, ap, subst}
+use Rattle.std.proofs.Common.{ℕ, is_ok, ap, subst}
 use Rattle.std.proofs.Output.{has_written_append}
 use Rattle.std.specs.Fmt.{HasWritten}
 use Rattle.checker.specs.Tallies.{summary_of}
