@@ -1,10 +1,10 @@
 #!/bin/sh
 # Runs the built program on texts at the edges of the format, and compares what it writes and its status.
-#   tests/program.sh [PROGRAM]     PROGRAM is target/bin/check if it is not given
+#   tests/program.sh [PROGRAM]     PROGRAM is crates/checker/out/checker if it is not given
 # LANDED says how many stages have landed: a text of a later stage is answered by its stage.
 set -u
 root=$(cd "$(dirname "$0")/.." && pwd)
-program=${1:-$root/target/bin/check}
+program=${1:-$root/crates/checker/out/checker}
 program=$(cd "$(dirname "$program")" && pwd)/$(basename "$program")
 landed=${LANDED:-0}
 work=$(mktemp -d)
@@ -80,7 +80,7 @@ id='def id : (A : Type 0) -> A -> A := fun (A : Type 0) => fun (x : A) => x;'
 nat='data nat : Type 0 { zero again 0; next again 1; }'
 
 # The samples.
-cp "$root"/crates/check/data/*.txt .
+cp "$root"/crates/checker/data/*.txt .
 holds id.txt 0 1
 holds numbers.txt 1 3
 holds equality.txt 2 4
@@ -193,7 +193,7 @@ expect $all "$(answer - 0 '-: all 1')" ''
 cp id.txt in
 expect $all "$(answer - 0 '-: all 1')" '' -
 expect 0 'check 0.1.0' '' --version
-expect 0 "$(cat "$root/crates/check/stdout")" '' --help
+expect 0 "$(cat "$root/crates/checker/stdout")" '' --help
 expect 1 '' 'check: missing.txt: No such file or directory (os error 2)' missing.txt
 mkdir folder
 expect 1 '' 'check: folder: Is a directory (os error 21)' folder
