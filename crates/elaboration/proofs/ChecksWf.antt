@@ -1,5 +1,5 @@
 -- What checks is a well-formed environment: every entry was admissible, so well-formed, in what was before it.
-use mathlib.Core.List.{List}
+use Rattle.std.proofs.Common.{List}
 use Rattle.theory.specs.Environment.{Env}
 use Rattle.theory.specs.Typing.{WfEnv, env_end, env_more}
 use Rattle.syntax.specs.Surface.{Decl}

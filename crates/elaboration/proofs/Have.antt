@@ -1,8 +1,6 @@
 -- have x : a { b } c is another way to write (fun (x : a) => c) b: the two elaborate to the same terms, and as much is left out
 -- of the one as of the other.
-use mathlib.Core.Path.{◌≡◌, refl}
-use mathlib.Core.Bool.{Bool, true, false, ◌&&◌}
-use mathlib.Core.List.{List, ◌∷◌}
+use Rattle.std.proofs.Common.{◌≡◌, refl, Bool, true, false, ◌&&◌, List, ◌∷◌}
 use Rattle.theory.specs.Terms.{Term}
 use Rattle.syntax.specs.Surface.{Name, Expr, e_lam, e_app, e_have}
 use Rattle.elaboration.specs.Elaboration.{Global, Elab, el_lam, el_app, el_have, plain}

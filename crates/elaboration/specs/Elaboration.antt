@@ -47,12 +47,12 @@ indexed_head gs x (i ∷ j ∷ []) = cond (same x w_along) (some (h_along i j)) 
 indexed_head gs x (i ∷ j ∷ k ∷ ks) = none
 
 -- Elab gs ys a t: among the globals gs and the bound names ys, the innermost first, the surface term a elaborates to t.
---   el-local: a name is the innermost bound variable of that name.
---   el-global: else the global of that name, applied to as many terms as are left out.
---   el-full: @x is the global with no argument left out, where no bound name hides it.
---   el-at: a name with numbers is its head, where no bound name hides it.
---   el-hole: a hole is any term.
---   el-have: have x : a { b } c is (fun (x : a) => c) b.
+--   el_local: a name is the innermost bound variable of that name.
+--   el_global: else the global of that name, applied to as many terms as are left out.
+--   el_full: @x is the global with no argument left out, where no bound name hides it.
+--   el_at: a name with numbers is its head, where no bound name hides it.
+--   el_hole: a hole is any term.
+--   el_have: have x : a { b } c is (fun (x : a) => c) b.
 pub data Elab (gs : List Global) : List Name → Expr → Term → Type 0 where
   el_local : {ys : List Name} {x : Name} {n : ℕ} → index_of ys x ≡ some n → Elab gs ys (e_name x) (var n)
   el_global : {ys : List Name} {x : Name} {g : Global} (ts : List Term)

@@ -1,18 +1,14 @@
 // Judging the next declaration: its names resolved, its entry settled, and declared.
-ghost use Rattle.std.specs.Prelude.{ℕ, ◌+◌, ◌*◌, ◌^◌, ◌≤◌, List, ◌∷◌, length};
+ghost use Rattle.std.specs.Prelude.{ℕ, ◌+◌, ◌*◌, ◌^◌, ◌≤◌, List, length};
 ghost use Rattle.theory.specs.Environment as theory;
-ghost use Rattle.theory.specs.Environment.{Env};
 ghost use Rattle.reduction.specs.Lookup.{Declared as Extends};
 ghost use Rattle.resolver.specs.Entries.{put_entry, DeclSetting, DeclReady};
 ghost use Rattle.syntax.specs.Surface.{Decl};
 ghost use Rattle.elaboration.specs.Elaboration.{Global};
-ghost use Rattle.judge.specs.Judging.{Ordered, BodyAt, EntryWritten, Judging, CanJudge, Steps};
+ghost use Rattle.judge.specs.Judging.{Ordered, BodyAt, EntryWritten};
 
-use crate::row::{Spot, Step};
-use crate::settle::settle;
-use kernel::check::Checked as Verdict;
 use reduction::declare::{enter_axiom, enter_definition};
-use resolver::declarations::{Declared, declare, resolve_declaration};
+use resolver::declarations::{Declared, resolve_declaration};
 
 // An entry written into the store: where its body begins, if it has one, and where it ends; and where the tree goes on.
 #[derive(Clone, Copy)]

@@ -101,9 +101,9 @@ skip_on_hash b b' bs n h p q r x =
     one_further between comment _ bs n h (p ∙ ap (λ (x : Bool). tokens_from (skipping x) (drop n bs)) q) (λ cs. skip_hash (get_or bs n 0) cs x)
     ∙ ap (λ (x : Bool). tokens_from (skipping x) (drop (n + 1) bs)) (sym r)
 
-pub skip_on-blank : (b b' : Bool) (bs : List ℕ) (n : ℕ) → n < length bs → tokens bs ≡ tokens_from (skipping b) (drop n bs)
+pub skip_on_blank : (b b' : Bool) (bs : List ℕ) (n : ℕ) → n < length bs → tokens bs ≡ tokens_from (skipping b) (drop n bs)
     → b ≡ false → b' ≡ b → blank (get_or bs n 0) ≡ true → tokens bs ≡ tokens_from (skipping b') (drop (n + 1) bs)
-skip_on-blank b b' bs n h p q r x =
+skip_on_blank b b' bs n h p q r x =
     one_further between between _ bs n h (p ∙ ap (λ (x : Bool). tokens_from (skipping x) (drop n bs)) q) (λ cs. skip_blank (get_or bs n 0) cs x)
     ∙ ap (λ (x : Bool). tokens_from (skipping x) (drop (n + 1) bs)) (sym (r ∙ q))
 

@@ -1,5 +1,5 @@
 -- How atoms, applications and terms begin, by which the reader knows what comes: an application is an atom and a row of atoms,
--- an atom begins as starts-atom says, and no term begins with a name and a colon.
+-- an atom begins as starts_atom says, and no term begins with a name and a colon.
 use Rattle.std.proofs.Common.{◌≡◌, ℕ, Bool, true, false, cond, not, ◌&&◌, T, List, [], ◌∷◌, ◌++◌, sym, refl, ap, ◌∙◌, subst as tr, append_assoc, append-nil, arith, T_not}
 use mathlib.Core.Option.{some, none}
 use lib.Dec.{not_T}

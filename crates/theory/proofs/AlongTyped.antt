@@ -1,11 +1,9 @@
 -- The elimination step keeps the type: on reflexivity the two ends of the equality are convertible, and so are the type of the
 -- case and the type of the elimination.
-use mathlib.Core.Path.{◌≡◌, refl, sym, ap, ◌∙◌, subst as tr}
-use mathlib.Core.List.{List, [], ◌∷◌, reverse_aux}
+use Rattle.std.proofs.Common.{◌≡◌, refl, sym, ap, ◌∙◌, subst as tr, List, [], ◌∷◌, ℕ, length, arith}
+use mathlib.Core.List.{reverse_aux}
 use mathlib.Core.Option.{some}
-use Prim.Native.Nat.{ℕ}
-use lib.ListN.{length, get_elem?}
-use native.Mathlib.Omega.{arith}
+use lib.ListN.{get_elem?}
 use Rattle.theory.specs.Terms.{Head, h_refl, h_along, Term, var, const, sort, pi, app, lift, subst_all, apps, pis}
 use Rattle.theory.specs.Environment.{Env, eq_of, refl_of, head_type_lem}
 use Rattle.theory.specs.Reduction.{spine, last_arg, Conv, conv_refl}

@@ -1,10 +1,6 @@
 -- The case of a constructor applied to the fields, to the recursive fields and to the results for these.
 -- Its type is then the motive at the constructor.
-use mathlib.Core.Path.{◌≡◌, refl, sym, ap₂, ◌∙◌, subst as tr, subst₂ as tr₂}
-use mathlib.Core.List.{List, [], ◌∷◌, ◌++◌, append_assoc, append-nil}
-use Prim.Native.Nat.{ℕ, zero, suc}
-use lib.ListN.{length}
-use native.Mathlib.Omega.{arith}
+use Rattle.std.proofs.Common.{◌≡◌, refl, sym, ap₂, ◌∙◌, subst as tr, subst₂ as tr₂, List, [], ◌∷◌, ◌++◌, append_assoc, append-nil, ℕ, zero, suc, length, arith}
 use Rattle.theory.specs.Terms.{h_data, h_con, Term, var, const, pi, app, apps}
 use Rattle.theory.specs.Environment.{Env, up, hypotheses, case_recs, case_type}
 use Rattle.theory.specs.Reduction.{app_each}

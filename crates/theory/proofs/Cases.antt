@@ -1,7 +1,6 @@
 -- Worked examples of the rules: the types of the recursors of numbers and lists and of a constructor, 1 + 1 in seven normal-order
 -- steps, elimination on reflexivity, the identity function.
-use mathlib.Core.Path.{◌≡◌, refl}
-use mathlib.Core.List.{[], ◌∷◌}
+use Rattle.std.proofs.Common.{◌≡◌, refl, [], ◌∷◌}
 use mathlib.Core.Option.{some, none}
 use Rattle.theory.specs.Terms.{h_def, h_data, h_con, h_rec, h_eq, h_refl, h_along, Term, var, const, sort, pi, lam, app}
 use Rattle.theory.specs.Environment.{DataType, defined, inductive, Env, head_type_lem}

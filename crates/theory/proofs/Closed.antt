@@ -1,13 +1,9 @@
--- Terms whose free variables are below a bound; lift, subst and subst-all leave them as they are.
+-- Terms whose free variables are below a bound; lift, subst and subst_all leave them as they are.
 -- In a well-formed environment the bodies of definitions and the types of all heads are closed.
-use mathlib.Core.Path.{◌≡◌, refl, sym, ap, ap₂, ◌∙◌, subst as tr}
-use mathlib.Core.List.{List, [], ◌∷◌, ◌++◌, reverse, reverse_aux}
+use Rattle.std.proofs.Common.{◌≡◌, refl, sym, ap, ap₂, ◌∙◌, subst as tr, List, [], ◌∷◌, ◌++◌, reverse, ℕ, zero, suc, ◌+◌, ◌-◌, ◌≤◌, ◌<◌, length, ltb, arith, ltb-true, ltb-false}
+use mathlib.Core.List.{reverse_aux}
 use mathlib.Core.Option.{some, none}
-use Prim.Native.Nat.{ℕ, zero, suc, ◌+◌, ◌-◌, ◌≤◌, ◌<◌}
-use lib.ListN.{length, get_elem?, length-reverse_aux}
-use lib.Dec.{ltb}
-use native.Mathlib.Omega.{arith}
-use borrow.Author.Tests.{ltb-true, ltb-false}
+use lib.ListN.{get_elem?, length-reverse_aux}
 use Rattle.theory.specs.Terms.{Head, h_def, h_data, h_con, h_rec, h_eq, h_refl, h_along, Term, var, const, sort, pi, lam, app, option, lift, subst, subst_all, apps, pis}
 use Rattle.theory.specs.Environment.{Constructor, DataType, Entry, defined, assumed, inductive, Env, vars, self_type, rec_fields, hypotheses, case_recs, case_type, rec_cases, rec_type, data_type, con_type, entry_type, entry_body, entry_data, data_at, head_type_lem, up, ups}
 use Rattle.theory.specs.Reduction.{delta}

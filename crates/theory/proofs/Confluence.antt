@@ -1,6 +1,6 @@
 -- Convertible terms have a common reduct.
 -- Parallel reduction has the diamond property, and its closure is that of single steps.
-use mathlib.Core.Path.{refl, sym, subst₂ as tr₂}
+use Rattle.std.proofs.Common.{refl, sym, subst₂ as tr₂}
 use Rattle.theory.specs.Terms.{Term, pi, lam, app}
 use Rattle.theory.specs.Environment.{Env}
 use Rattle.theory.specs.Reduction.{Step, contracts, unfolds, in_fun, in_arg, in_pi, under_pi, in_lam, under_lam, Steps, no_steps, a_step, Conv, conv_refl, conv_step, conv_back}

@@ -1,12 +1,8 @@
--- Conversion: an equivalence and a congruence, stable under lift, subst and subst-all.
+-- Conversion: an equivalence and a congruence, stable under lift, subst and subst_all.
 -- A step in a term that is put for a variable is a number of steps.
-use mathlib.Core.Path.{◌≡◌, refl, sym, ap, ap₂, subst as tr}
-use mathlib.Core.List.{List}
+use Rattle.std.proofs.Common.{◌≡◌, refl, sym, ap, ap₂, subst as tr, List, ℕ, zero, suc, ◌+◌, ◌-◌, ltb, arith}
 use mathlib.Core.Option.{some}
-use Prim.Native.Nat.{ℕ, zero, suc, ◌+◌, ◌-◌}
 use lib.ListN.{get_elem?}
-use lib.Dec.{ltb}
-use native.Mathlib.Omega.{arith}
 use Rattle.theory.specs.Terms.{Term, var, const, sort, pi, lam, app, lift, subst, subst_all, apps, option}
 use Rattle.theory.specs.Environment.{Env}
 use Rattle.theory.specs.Reduction.{Step, contracts, unfolds, in_fun, in_arg, in_pi, under_pi, in_lam, under_lam, Steps, no_steps, a_step, Conv, conv_refl, conv_step, conv_back}

@@ -1,10 +1,7 @@
 -- What the normal forms of inferred types decide: whether an application, a function type or a function has a type, whether a
 -- term is of a sort or of a given type. Each question has a lemma for yes and a lemma for no.
-use mathlib.Core.Path.{◌≡◌, sym, ◌∙◌}
-use mathlib.Core.Bool.{false}
-use mathlib.Core.List.{List, ◌∷◌}
+use Rattle.std.proofs.Common.{◌≡◌, sym, ◌∙◌, false, List, ◌∷◌, ℕ, max}
 use mathlib.Core.Option.{none}
-use Prim.Native.Nat.{ℕ, max}
 use lib.ListN.{get_elem?}
 use Rattle.theory.specs.Terms.{Head, Term, var, const, sort, pi, lam, app, subst}
 use Rattle.theory.specs.Environment.{Env, head_type_lem}

@@ -1,9 +1,7 @@
 -- One more entry of the environment changes no step, no conversion and no typing.
 -- Hence every entry of a well-formed environment is well-formed in the whole of it.
-use mathlib.Core.Path.{◌≡◌, sym, ap, subst as tr}
-use mathlib.Core.List.{List, [], ◌∷◌, ◌++◌}
+use Rattle.std.proofs.Common.{◌≡◌, sym, ap, subst as tr, List, [], ◌∷◌, ◌++◌, ℕ}
 use mathlib.Core.Option.{some, none}
-use Prim.Native.Nat.{ℕ}
 use lib.ListN.{get_elem?}
 use Rattle.theory.specs.Terms.{Head, h_def, h_data, h_con, h_rec, h_eq, h_refl, h_along, Term, option}
 use Rattle.theory.specs.Environment.{Constructor, DataType, Entry, defined, assumed, inductive, Env, entry_type, entry_body, entry_data, data_at, data_type, con_type, rec_type, head_type_lem}

@@ -1,10 +1,7 @@
 -- A term convertible to a function type, or to a sort, comes to a first one by normal-order steps.
 -- The first function type and the first sort exist because reduction can be made standard, weak-head steps first.
-use mathlib.Core.Path.{◌≡◌, refl, sym, ap, ◌∙◌, subst as tr}
-use mathlib.Core.Bool.{Bool, true, false}
+use Rattle.std.proofs.Common.{◌≡◌, refl, sym, ap, ◌∙◌, subst as tr, Bool, true, false, ℕ, zero, suc, ◌<◌, arith}
 use mathlib.Core.Option.{some}
-use Prim.Native.Nat.{ℕ, zero, suc, ◌<◌}
-use native.Mathlib.Omega.{arith}
 use Rattle.theory.specs.Terms.{Term, sort, pi}
 use Rattle.theory.specs.Environment.{Env}
 use Rattle.theory.specs.Reduction.{bind, Conv, normal_steps}

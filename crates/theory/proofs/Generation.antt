@@ -1,9 +1,7 @@
 -- What the typing of a term says of its parts: one record for each term former.
 -- The type of the term is known up to conversion.
-use mathlib.Core.Path.{◌≡◌}
-use mathlib.Core.List.{List, ◌∷◌}
+use Rattle.std.proofs.Common.{◌≡◌, List, ◌∷◌, ℕ, suc, max}
 use mathlib.Core.Option.{some}
-use Prim.Native.Nat.{ℕ, suc, max}
 use lib.ListN.{get_elem?}
 use Rattle.theory.specs.Terms.{Head, Term, var, const, sort, pi, lam, app, lift, subst}
 use Rattle.theory.specs.Environment.{Env, head_type_lem}

@@ -1,11 +1,8 @@
 -- In a well-formed environment the type of every head is of a sort.
 -- The long part is the recursor: its cases are typed for any parameters and motive, in any context.
-use mathlib.Core.Path.{◌≡◌, refl, sym, ap, ap₂, ◌∙◌, subst as tr, subst₂ as tr₂}
-use mathlib.Core.List.{List, [], ◌∷◌, ◌++◌, append_assoc, append-nil, map, reverse}
+use Rattle.std.proofs.Common.{◌≡◌, refl, sym, ap, ap₂, ◌∙◌, subst as tr, subst₂ as tr₂, List, [], ◌∷◌, ◌++◌, append_assoc, append-nil, map, reverse, ℕ, zero, suc, ◌+◌, max, length, arith}
 use mathlib.Core.Option.{some, none}
-use Prim.Native.Nat.{ℕ, zero, suc, ◌+◌, max}
-use lib.ListN.{length, get_elem?}
-use native.Mathlib.Omega.{arith}
+use lib.ListN.{get_elem?}
 use Rattle.theory.specs.Terms.{Head, h_def, h_data, h_con, h_rec, h_eq, h_refl, h_along, Term, var, const, sort, pi, app, option, lift, subst_all, apps, pis}
 use Rattle.theory.specs.Environment.{Constructor, DataType, Entry, defined, assumed, inductive, Env, vars, self_type, rec_fields, con_type, up, ups, hypotheses, case_recs, case_type, rec_type, data_type, eq_type, eq_of, refl_type, refl_of, along_type, entry_type, entry_data, data_at, head_type_lem}
 use Rattle.theory.specs.Typing.{HasType, t_var, t_head, t_sort, t_pi, t_app, Telescope, tel_end, tel_more, extend, AllBounded, WfEntry, WfEnv, ctx_end}

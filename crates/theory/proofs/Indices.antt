@@ -1,9 +1,6 @@
 -- Laws of lift and subst with one another.
 -- Every sum of indices is a variable with an equation, so that arithmetic discharges it.
-use mathlib.Core.Path.{◌≡◌, refl, sym, ap, ap₂}
-use Prim.Native.Nat.{ℕ, suc, ◌+◌, ◌≤◌, ◌<◌}
-use native.Mathlib.Omega.{arith}
-use borrow.Author.Tests.{lt-ltb, le-ltb, eq-eqb, ne_eqb}
+use Rattle.std.proofs.Common.{◌≡◌, refl, sym, ap, ap₂, ℕ, suc, ◌+◌, ◌≤◌, ◌<◌, arith, lt-ltb, le-ltb, eq-eqb, ne_eqb}
 use Rattle.theory.specs.Terms.{Term, var, const, sort, pi, lam, app, lift, subst}
 
 -- the variable cases

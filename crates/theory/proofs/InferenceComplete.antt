@@ -1,6 +1,6 @@
 -- A term that has a type has an inferred type: by induction on typing, since an inferred type is convertible to the given one,
 -- so that normal-order reduction comes to the function type or the sort that the rule asks for.
-use mathlib.Core.List.{List}
+use Rattle.std.proofs.Common.{List}
 use Rattle.theory.specs.Terms.{Term}
 use Rattle.theory.specs.Environment.{Env}
 use Rattle.theory.specs.Typing.{HasType, t_var, t_head, t_sort, t_pi, t_lam, t_app, t_conv, WfEnv, Infers, i_var, i_head, i_sort, i_pi, i_lam, i_app}

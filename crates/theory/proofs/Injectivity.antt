@@ -1,11 +1,7 @@
 -- Convertible function types have convertible parts, convertible sorts are equal, and no function type converts to a sort.
 -- Convertible spines with quiet heads have the same head and convertible arguments.
-use mathlib.Core.Path.{◌≡◌, refl, sym, ap, ◌∙◌, subst as tr, subst₂ as tr₂}
-use mathlib.Core.List.{List, [], ◌∷◌, append-nil}
+use Rattle.std.proofs.Common.{◌≡◌, refl, sym, ap, ◌∙◌, subst as tr, subst₂ as tr₂, List, [], ◌∷◌, append-nil, ℕ, length, arith}
 use mathlib.Core.Option.{some}
-use Prim.Native.Nat.{ℕ}
-use lib.ListN.{length}
-use native.Mathlib.Omega.{arith}
 use Rattle.theory.specs.Terms.{Head, h_data, h_con, h_eq, Term, const, sort, pi, apps}
 use Rattle.theory.specs.Environment.{Env, eq_of}
 use Rattle.theory.specs.Reduction.{Spine, spine, in_pi, under_pi, Steps, no_steps, a_step, Conv, conv_refl}
@@ -55,8 +51,8 @@ module _ {e : Env} where
       (last, pw_conv_trans (pw_map (λ a b x. steps_conv (par_steps x)) ps) qs)
 
 -- the spine of a head applied to arguments
-pub spine-apps_head : (h : Head) (as₁ : List Term) → (spine (apps (const h) as₁) []).head ≡ some h
-spine-apps_head h as₁ = ap (λ (s : Spine). s.head) (spine-apps (const h) as₁ [])
+pub spine-apps-head : (h : Head) (as₁ : List Term) → (spine (apps (const h) as₁) []).head ≡ some h
+spine-apps-head h as₁ = ap (λ (s : Spine). s.head) (spine-apps (const h) as₁ [])
 
 pub spine-apps-args : (h : Head) (as₁ : List Term) → (spine (apps (const h) as₁) []).args ≡ as₁
 spine-apps-args h as₁ = ap (λ (s : Spine). s.args) (spine-apps (const h) as₁ []) ∙ append-nil as₁
@@ -104,7 +100,7 @@ module _ {e : Env} (w : WfEnv e) where
   -- heads applied to arguments
   apps_inj : (h k : Head) (as₁ bs : List Term) → ((n : ℕ) → Quiet e h n) → ((n : ℕ) → Quiet e k n) → Conv e (apps (const h) as₁) (apps (const k) bs) → (h ≡ k) × Pairwise (Conv e) as₁ bs
   apps_inj h k as₁ bs x y s =
-      let (p, q) = spine_inj s h k (spine-apps_head h as₁) (x _) (spine-apps_head k bs) (y _) in
+      let (p, q) = spine_inj s h k (spine-apps-head h as₁) (x _) (spine-apps-head k bs) (y _) in
       (p, tr₂ (Pairwise (Conv e)) (spine-apps-args h as₁) (spine-apps-args k bs) q)
 
   pub data_inj : (i j : ℕ) (as₁ bs : List Term) → Conv e (apps (const (h_data i)) as₁) (apps (const (h_data j)) bs) → (i ≡ j) × Pairwise (Conv e) as₁ bs

@@ -1,12 +1,8 @@
 -- The steps of recursors and eliminations: iota, which is contract without beta.
 -- Two views say when a recursor or an elimination reduces, one field for each test.
-use mathlib.Core.Path.{◌≡◌, refl, sym, ap, ◌∙◌}
-use mathlib.Core.Bool.{true}
-use mathlib.Core.List.{List, [], ◌∷◌, ◌++◌, append_assoc}
+use Rattle.std.proofs.Common.{◌≡◌, refl, sym, ap, ◌∙◌, true, List, [], ◌∷◌, ◌++◌, append_assoc, ℕ, ◌+◌, length, take, drop, eqb-true, eq-eqb}
 use mathlib.Core.Option.{Option, some, none}
-use Prim.Native.Nat.{ℕ, ◌+◌}
-use lib.ListN.{length, take, drop, get_elem?}
-use borrow.Author.Tests.{eqb-true, eq-eqb}
+use lib.ListN.{get_elem?}
 use Rattle.theory.specs.Terms.{Head, h_def, h_data, h_con, h_rec, h_eq, h_refl, h_along, Term, var, const, sort, pi, lam, app, subst, apps}
 use Rattle.theory.specs.Environment.{Constructor, DataType, Env, data_at}
 use Rattle.theory.specs.Reduction.{bind, spine, ConAt, con_of, is_refl, last_arg, app_each, iota_rec, iota_along, iota_head, beta, contract}

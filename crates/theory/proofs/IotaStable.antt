@@ -1,12 +1,8 @@
 -- The steps of recursors and eliminations are stable under any relation that keeps quiet spines.
--- Instances: maps that commute with heads and application, as lift, subst and subst-all do.
-use mathlib.Core.Path.{◌≡◌, refl, sym, ap, ap₂, ◌∙◌, subst as tr, subst₂ as tr₂}
-use mathlib.Core.List.{List, [], ◌∷◌, ◌++◌}
+-- Instances: maps that commute with heads and application, as lift, subst and subst_all do.
+use Rattle.std.proofs.Common.{◌≡◌, refl, sym, ap, ap₂, ◌∙◌, subst as tr, subst₂ as tr₂, List, [], ◌∷◌, ◌++◌, ℕ, zero, suc, ◌+◌, ◌≤◌, ◌<◌, length, take, drop, length-append, arith, ne_eqb}
 use mathlib.Core.Option.{some, none}
-use Prim.Native.Nat.{ℕ, zero, suc, ◌+◌, ◌≤◌, ◌<◌}
-use lib.ListN.{length, take, drop, get_elem?, length-append}
-use native.Mathlib.Omega.{arith}
-use borrow.Author.Tests.{ne_eqb}
+use lib.ListN.{get_elem?}
 use Rattle.theory.specs.Terms.{Head, h_data, h_con, h_rec, h_eq, h_refl, h_along, Term, var, const, sort, pi, lam, app, lift, subst, subst_all, apps}
 use Rattle.theory.specs.Environment.{DataType, Env, data_at}
 use Rattle.theory.specs.Reduction.{spine, last_arg, app_each, iota_head, delta}

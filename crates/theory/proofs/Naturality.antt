@@ -1,11 +1,8 @@
--- The types of cases commute with lift, subst and subst-all, and with the term put for a binder of theirs.
+-- The types of cases commute with lift, subst and subst_all, and with the term put for a binder of theirs.
 -- The types of constructors and recursors behind the parameters, as functions of parameters and motive.
-use mathlib.Core.Path.{◌≡◌, refl, sym, ap, ap₂, ◌∙◌}
-use mathlib.Core.List.{List, [], ◌∷◌, ◌++◌, map, map-append, reverse}
+use Rattle.std.proofs.Common.{◌≡◌, refl, sym, ap, ap₂, ◌∙◌, List, [], ◌∷◌, ◌++◌, map, reverse, ℕ, zero, suc, ◌+◌, ◌≤◌, length, arith}
+use mathlib.Core.List.{map-append}
 use mathlib.Mathlib.Data.List.Basic.{map-reverse_aux}
-use Prim.Native.Nat.{ℕ, zero, suc, ◌+◌, ◌≤◌}
-use lib.ListN.{length}
-use native.Mathlib.Omega.{arith}
 use Rattle.theory.specs.Terms.{Head, h_data, h_con, Term, var, const, pi, app, lift, subst, subst_all, apps}
 use Rattle.theory.specs.Environment.{Constructor, DataType, vars, self_type, rec_fields, up, ups, hypotheses, case_recs, case_type, rec_cases}
 use Rattle.theory.proofs.Indices.{lift-zero, subst-lift}

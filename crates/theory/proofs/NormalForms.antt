@@ -1,12 +1,7 @@
 -- Normal forms: a normal term takes no step, and convertible terms with normal forms have the same one.
 -- A term whose normal form is no function type, or no sort, is convertible to none. Last, the laws of a loop that takes steps.
-use mathlib.Core.Path.{◌≡◌, refl, sym, ap, ◌∙◌, subst as tr}
-use mathlib.Core.Bool.{Bool, true, false}
+use Rattle.std.proofs.Common.{◌≡◌, refl, sym, ap, ◌∙◌, subst as tr, Bool, true, false, ℕ, suc, ◌<◌, arith, ltb, ltb-true, ltb-false}
 use mathlib.Core.Option.{some, none}
-use Prim.Native.Nat.{ℕ, suc, ◌<◌}
-use native.Mathlib.Omega.{arith}
-use lib.Dec.{ltb}
-use borrow.Author.Tests.{ltb-true, ltb-false}
 use Rattle.theory.specs.Terms.{Term, sort, pi}
 use Rattle.theory.specs.Environment.{Env}
 use Rattle.theory.specs.Reduction.{Steps, no_steps, a_step, Conv, normal_step, normal_steps}

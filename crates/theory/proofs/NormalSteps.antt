@@ -1,13 +1,7 @@
 -- Normal-order steps: each is a reduction step; a term without one is normal; they compose, and there is one way of taking them.
 -- The first reduct with a property, and the inferred type, are unique.
-use mathlib.Core.Path.{◌≡◌, refl, sym, ap, ap₂, ◌∙◌, subst as tr}
-use mathlib.Core.Bool.{Bool, true, false, cond}
-use mathlib.Core.List.{List}
+use Rattle.std.proofs.Common.{◌≡◌, refl, sym, ap, ap₂, ◌∙◌, subst as tr, Bool, true, false, cond, List, ℕ, zero, suc, ◌+◌, ◌-◌, ◌<◌, ◌≤◌, max, arith, ltb, ltb-true, ltb-false}
 use mathlib.Core.Option.{Option, some, none}
-use Prim.Native.Nat.{ℕ, zero, suc, ◌+◌, ◌-◌, ◌<◌, ◌≤◌, max}
-use native.Mathlib.Omega.{arith}
-use lib.Dec.{ltb}
-use borrow.Author.Tests.{ltb-true, ltb-false}
 use Rattle.theory.proofs.Options.{none-some, true-false, some_inj, cases_bool, bind-some, map-some, or_else_some, map-none, or_else_none}
 use Rattle.theory.specs.Terms.{Term, var, const, sort, pi, lam, app, lift, subst}
 use Rattle.theory.specs.Environment.{Env}

@@ -1,12 +1,7 @@
 -- Equations between options and tests taken apart: what they say of the parts.
 -- The lemmas are in continuation style, so that each value found is a variable where it is used.
-use mathlib.Core.Path.{◌≡◌, refl, sym}
-use mathlib.Core.Bool.{Bool, true, false, ◌&&◌, cond}
+use Rattle.std.proofs.Common.{◌≡◌, refl, sym, Bool, true, false, ◌&&◌, cond, ℕ, eqb, arith, eqb-true}
 use mathlib.Core.Option.{Option, some, none}
-use Prim.Native.Nat.{ℕ}
-use lib.Dec.{eqb}
-use native.Mathlib.Omega.{arith}
-use borrow.Author.Tests.{eqb-true}
 use Rattle.theory.specs.Terms.{option}
 use Rattle.theory.specs.Reduction.{or_else, map_option, bind}
 

@@ -1,12 +1,7 @@
 -- Parallel reduction: any number of redexes of a term contracted at once.
 -- It is stable under lift and subst, keeps quiet spines, and every term has one reduct that all its reducts come to.
-use mathlib.Core.Path.{◌≡◌, refl, sym, ap, ◌∙◌, subst as tr}
-use mathlib.Core.List.{[], ◌∷◌}
+use Rattle.std.proofs.Common.{◌≡◌, refl, sym, ap, ◌∙◌, subst as tr, [], ◌∷◌, ℕ, suc, length, length-append, eqb, ltb, arith}
 use mathlib.Core.Option.{some, none}
-use Prim.Native.Nat.{ℕ, suc}
-use lib.ListN.{length, length-append}
-use lib.Dec.{eqb, ltb}
-use native.Mathlib.Omega.{arith}
 use Rattle.theory.specs.Terms.{Head, Term, var, const, sort, pi, lam, app, lift, subst}
 use Rattle.theory.specs.Environment.{Env}
 use Rattle.theory.specs.Reduction.{spine, beta, delta}

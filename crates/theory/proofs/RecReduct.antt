@@ -1,12 +1,9 @@
 -- The arguments of a recursor and of a constructor put together from their parts.
 -- What the recursor reduces to, in terms of the parts.
-use mathlib.Core.Path.{◌≡◌, refl, sym, ap, ◌∙◌}
-use mathlib.Core.List.{List, [], ◌∷◌, ◌++◌, append_assoc}
+use Rattle.std.proofs.Common.{◌≡◌, refl, sym, ap, ◌∙◌, List, [], ◌∷◌, ◌++◌, append_assoc, ℕ, zero, suc, ◌+◌, ◌<◌, length, take, drop, length-append, arith}
 use mathlib.Core.Option.{some}
-use Prim.Native.Nat.{ℕ, zero, suc, ◌+◌, ◌<◌}
-use lib.ListN.{length, take, drop, get_elem?, length-append}
+use lib.ListN.{get_elem?}
 use lib.Seq.{take-append_seam, drop-append_seam}
-use native.Mathlib.Omega.{arith}
 use Rattle.theory.proofs.SubstAll.{get_append}
 use Rattle.theory.specs.Terms.{h_rec, Term, const, apps}
 use Rattle.theory.specs.Environment.{Constructor, DataType}

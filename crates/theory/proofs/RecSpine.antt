@@ -1,11 +1,9 @@
 -- What the typing of a recursor's spine and of a constructor's spine say of their arguments.
 -- The constructor's fields are given with the recursor's parameters put in.
-use mathlib.Core.Path.{◌≡◌, refl, sym, ap, ap₂, ◌∙◌, subst as tr, subst₂ as tr₂}
-use mathlib.Core.List.{List, [], ◌∷◌, ◌++◌, map, reverse, reverse_aux, reverse_aux-eq}
+use Rattle.std.proofs.Common.{◌≡◌, refl, sym, ap, ap₂, ◌∙◌, subst as tr, subst₂ as tr₂, List, [], ◌∷◌, ◌++◌, map, reverse, ℕ, zero, suc, ◌+◌, length, arith}
+use mathlib.Core.List.{reverse_aux, reverse_aux-eq}
 use mathlib.Core.Option.{some}
-use Prim.Native.Nat.{ℕ, zero, suc, ◌+◌}
-use lib.ListN.{length, get_elem?, length-reverse}
-use native.Mathlib.Omega.{arith}
+use lib.ListN.{get_elem?, length-reverse}
 use Rattle.theory.specs.Terms.{h_data, h_con, h_rec, Term, var, const, sort, pi, app, subst, subst_all, apps, lifts, pis}
 use Rattle.theory.specs.Environment.{Constructor, DataType, Env, vars, self_type, rec_fields, con_type, up, case_type, rec_cases, rec_type, data_at}
 use Rattle.theory.specs.Reduction.{Conv, conv_refl}

@@ -1,11 +1,8 @@
 -- A step of a recursor keeps the type.
 -- The arguments of the recursor and of the constructor are split as their types say, and the case is applied to the parts.
-use mathlib.Core.Path.{◌≡◌, sym, ap, ap₂, ◌∙◌, subst as tr}
-use mathlib.Core.List.{List, [], ◌++◌, reverse}
+use Rattle.std.proofs.Common.{◌≡◌, sym, ap, ap₂, ◌∙◌, subst as tr, List, [], ◌++◌, reverse, ℕ, ◌+◌, length, arith}
 use mathlib.Core.Option.{some}
-use Prim.Native.Nat.{ℕ, ◌+◌}
-use lib.ListN.{length, get_elem?}
-use native.Mathlib.Omega.{arith}
+use lib.ListN.{get_elem?}
 use Rattle.theory.specs.Terms.{h_data, h_con, h_rec, Term, const, app, apps}
 use Rattle.theory.specs.Environment.{Env}
 use Rattle.theory.specs.Reduction.{spine, last_arg, conv_refl}

@@ -1,11 +1,8 @@
 -- What the typing of a head applied to arguments says of the arguments.
 -- Arguments for a telescope are split off; their types are those of the telescope with the arguments before them put in.
-use mathlib.Core.Path.{◌≡◌, sym, ◌∙◌}
-use mathlib.Core.List.{List, [], ◌∷◌, ◌++◌, reverse_aux}
+use Rattle.std.proofs.Common.{◌≡◌, sym, ◌∙◌, List, [], ◌∷◌, ◌++◌, ℕ, length, arith}
+use mathlib.Core.List.{reverse_aux}
 use mathlib.Core.Option.{some}
-use Prim.Native.Nat.{ℕ}
-use lib.ListN.{length}
-use native.Mathlib.Omega.{arith}
 use Rattle.theory.specs.Terms.{Head, Term, const, sort, pi, app, subst, subst_all, apps, pis}
 use Rattle.theory.specs.Environment.{Env, head_type_lem}
 use Rattle.theory.specs.Reduction.{Conv, conv_refl}

@@ -1,11 +1,8 @@
 -- Typing is stable: under lift, subst and simultaneous substitution, under conversion in the context, and in longer contexts.
 -- Insert and Put say how a binder is added to a context, and how a term is put for one.
-use mathlib.Core.Path.{◌≡◌, refl, sym, ap, ap₂, ◌∙◌, subst as tr, subst₂ as tr₂}
-use mathlib.Core.List.{List, [], ◌∷◌, ◌++◌}
+use Rattle.std.proofs.Common.{◌≡◌, refl, sym, ap, ap₂, ◌∙◌, subst as tr, subst₂ as tr₂, List, [], ◌∷◌, ◌++◌, ℕ, zero, suc, arith}
 use mathlib.Core.Option.{some}
-use Prim.Native.Nat.{ℕ, zero, suc}
 use lib.ListN.{get_elem?}
-use native.Mathlib.Omega.{arith}
 use Rattle.theory.specs.Terms.{Term, var, const, sort, pi, lam, app, lift, subst, subst_all}
 use Rattle.theory.specs.Environment.{Env, up, ups}
 use Rattle.theory.specs.Reduction.{Conv}

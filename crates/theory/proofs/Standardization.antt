@@ -1,13 +1,7 @@
 -- Standardization: a term that reduces to u comes to the shape of u by weak-head steps, and its parts to the parts of u.
 -- So a term convertible to a function type or to a sort comes to a first one by normal-order steps.
-use mathlib.Core.Path.{◌≡◌, refl, sym, ap, ◌∙◌, subst as tr}
-use mathlib.Core.Bool.{Bool, true, false, cond}
-use mathlib.Core.List.{List, [], ◌∷◌}
+use Rattle.std.proofs.Common.{◌≡◌, refl, sym, ap, ◌∙◌, subst as tr, Bool, true, false, cond, List, [], ◌∷◌, ℕ, suc, ◌+◌, ◌-◌, arith, length, eqb, ltb}
 use mathlib.Core.Option.{some}
-use Prim.Native.Nat.{ℕ, suc, ◌+◌, ◌-◌}
-use native.Mathlib.Omega.{arith}
-use lib.ListN.{length}
-use lib.Dec.{eqb, ltb}
 use Rattle.theory.specs.Terms.{Head, h_rec, h_along, h_con, h_refl, Term, var, const, sort, pi, lam, app, lift, subst, apps}
 use Rattle.theory.specs.Environment.{Env}
 use Rattle.theory.specs.Reduction.{spine, app_each, contract, Step, contracts, unfolds, in_fun, in_arg, in_pi, under_pi, in_lam, under_lam, Steps, no_steps, a_step}

@@ -1,9 +1,7 @@
 -- A step keeps the type.
 -- By recursion on the typing, so that conversion is nothing to do.
-use mathlib.Core.Path.{◌≡◌, sym, subst as tr, subst₂ as tr₂}
-use mathlib.Core.List.{List, []}
+use Rattle.std.proofs.Common.{◌≡◌, sym, subst as tr, subst₂ as tr₂, List, [], ℕ}
 use mathlib.Core.Option.{some}
-use Prim.Native.Nat.{ℕ}
 use lib.ListN.{get_elem?}
 use Rattle.theory.specs.Terms.{Head, h_def, h_data, h_con, h_rec, h_eq, h_refl, h_along, Term, sort, pi, lam, app, subst}
 use Rattle.theory.specs.Environment.{Entry, defined, assumed, inductive, Env, entry_type, entry_body, head_type_lem}

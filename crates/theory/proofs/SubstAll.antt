@@ -1,12 +1,8 @@
 -- Laws of simultaneous substitution with lift, subst and itself; families of maps that commute with lift.
--- A family gives what lift, subst and subst-all have in common: one proof serves all three.
-use mathlib.Core.Path.{◌≡◌, refl, sym, ap, ap₂, ◌∙◌}
-use mathlib.Core.List.{List, [], ◌∷◌, ◌++◌, map, reverse, reverse_aux}
-use Prim.Native.Nat.{ℕ, zero, suc, ◌+◌, ◌-◌, ◌≤◌, ◌<◌}
-use lib.ListN.{length, get_elem?}
-use lib.Dec.{ltb}
-use native.Mathlib.Omega.{arith}
-use borrow.Author.Tests.{lt-ltb, le-ltb, ltb-true, ltb-false}
+-- A family gives what lift, subst and subst_all have in common: one proof serves all three.
+use Rattle.std.proofs.Common.{◌≡◌, refl, sym, ap, ap₂, ◌∙◌, List, [], ◌∷◌, ◌++◌, map, reverse, ℕ, zero, suc, ◌+◌, ◌-◌, ◌≤◌, ◌<◌, length, ltb, arith, lt-ltb, le-ltb, ltb-true, ltb-false}
+use mathlib.Core.List.{reverse_aux}
+use lib.ListN.{get_elem?}
 use Rattle.theory.specs.Terms.{Head, Term, var, const, sort, pi, lam, app, option, lift, subst, subst_all, apps, lifts}
 use mathlib.Core.List.{reverse-append}
 use mathlib.Mathlib.Data.List.Basic.{map-reverse_aux}

@@ -1,13 +1,9 @@
 -- Arguments that fit a telescope, and what the typing of a spine says of its arguments.
 -- The substitution grows with the arguments, so that the telescope is never rewritten.
-use mathlib.Core.Path.{◌≡◌, refl, sym, ap, ap₂, ◌∙◌, subst as tr, subst₂ as tr₂}
-use mathlib.Core.List.{List, [], ◌∷◌, reverse, reverse_aux}
+use Rattle.std.proofs.Common.{◌≡◌, refl, sym, ap, ap₂, ◌∙◌, subst as tr, subst₂ as tr₂, List, [], ◌∷◌, reverse, ℕ, zero, suc, ◌+◌, ◌-◌, ◌≤◌, ◌<◌, max, length, ltb, arith, ltb-true, ltb-false}
+use mathlib.Core.List.{reverse_aux}
 use mathlib.Core.Option.{some}
-use Prim.Native.Nat.{ℕ, zero, suc, ◌+◌, ◌-◌, ◌≤◌, ◌<◌, max}
-use lib.ListN.{length, get_elem?}
-use lib.Dec.{ltb}
-use native.Mathlib.Omega.{arith}
-use borrow.Author.Tests.{ltb-true, ltb-false}
+use lib.ListN.{get_elem?}
 use Rattle.theory.specs.Terms.{Term, var, const, sort, pi, lam, app, option, lift, subst_all, apps, pis}
 use Rattle.theory.specs.Environment.{Env, vars, up, ups}
 use Rattle.theory.specs.Reduction.{Conv, conv_refl}

@@ -1,7 +1,5 @@
 -- A term has one type up to conversion, and the inferred type is that type.
-use mathlib.Core.Path.{sym, ap, ap₂, ◌∙◌}
-use mathlib.Core.List.{List}
-use Prim.Native.Nat.{suc, max}
+use Rattle.std.proofs.Common.{sym, ap, ap₂, ◌∙◌, List, suc, max}
 use Rattle.theory.specs.Terms.{Term, sort, lift}
 use Rattle.theory.specs.Environment.{Env}
 use Rattle.theory.specs.Reduction.{Conv, conv_refl}

@@ -1,10 +1,7 @@
 -- Every type is of a sort.
-use mathlib.Core.Path.{◌≡◌, subst as tr}
-use mathlib.Core.List.{List, ◌∷◌}
+use Rattle.std.proofs.Common.{◌≡◌, subst as tr, List, ◌∷◌, ℕ, zero, suc, max, arith}
 use mathlib.Core.Option.{some}
-use Prim.Native.Nat.{ℕ, zero, suc, max}
 use lib.ListN.{get_elem?}
-use native.Mathlib.Omega.{arith}
 use Rattle.theory.specs.Terms.{Term, sort, lift}
 use Rattle.theory.specs.Environment.{Env, up}
 use Rattle.theory.specs.Typing.{HasType, t_var, t_head, t_sort, t_pi, t_lam, t_app, t_conv, WfEnv, WfContext, ctx_end, ctx_more}

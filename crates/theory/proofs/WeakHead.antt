@@ -1,14 +1,7 @@
 -- Weak-head steps: the redex at the head of a spine, or in the last argument that a recursor or an elimination needs.
 -- A weak-head step is the normal-order step, and a term that takes one is no variable, sort, function type or function.
-use mathlib.Core.Path.{◌≡◌, refl, sym, ap, ◌∙◌}
-use mathlib.Core.Bool.{Bool, true, false}
-use mathlib.Core.List.{List, [], ◌∷◌}
+use Rattle.std.proofs.Common.{◌≡◌, refl, sym, ap, ◌∙◌, Bool, true, false, List, [], ◌∷◌, ℕ, suc, ◌+◌, ◌<◌, arith, length, eqb, eqb-true, ne_eqb}
 use mathlib.Core.Option.{some, none}
-use Prim.Native.Nat.{ℕ, suc, ◌+◌, ◌<◌}
-use native.Mathlib.Omega.{arith}
-use lib.ListN.{length}
-use lib.Dec.{eqb}
-use borrow.Author.Tests.{eqb-true, ne_eqb}
 use Rattle.theory.proofs.Options.{none-some, some_inj, false-true, cases_option, cases_bool, bind-some, option-true}
 use Rattle.theory.proofs.Iota.{spine_head, spine-args, last_append, beta-some, contract-some}
 use Rattle.theory.specs.Terms.{Head, h_def, h_data, h_con, h_rec, h_eq, h_refl, h_along, Term, var, const, sort, pi, lam, app, option}

@@ -1,6 +1,4 @@
-use mathlib.Core.Path.{◌≡◌, refl, sym}
-use Prim.Native.Nat.{ℕ}
-use native.Mathlib.Omega.{arith}
+use Rattle.std.proofs.Common.{◌≡◌, refl, sym, ℕ, arith}
 use Rattle.judge.specs.declared.Checked.TheVariants.{NotYet, NoText, Few}
 use Rattle.syntax.proofs.OneReading.{one_reading}
 use Rattle.judge.proofs.check.Goals as goal

@@ -1,6 +1,6 @@
 use Rattle.std.proofs.Common.{Bool, drop, sym, ap, ◌∙◌, arith}
 use Rattle.syntax.specs.Tokens.{tokens_from}
-use Rattle.syntax.proofs.Cutting.{skipping, skip_on_comment, skip_on_hash, skip_on-blank, skip_all, skip_stop}
+use Rattle.syntax.proofs.Cutting.{skipping, skip_on_comment, skip_on_hash, skip_on_blank, skip_all, skip_stop}
 use Rattle.syntax.proofs.lexer.blank_len.Goals as goal
 use Rattle.syntax.proofs.lexer.blank_len.Goals.{then-comment, else-comment+then-b-eq35, else-comment+else-b-eq35+else-not-is_blank}
 
@@ -12,7 +12,7 @@ loop-n-preserved c =
       elim c.if-comment.branch [
         | then-comment w ↦ skip_on_comment _ _ bs _ c.loop-n-test.true p w.if-comment.true w.comment-is
         | else-comment+then-b-eq35 w ↦ skip_on_hash _ _ bs _ c.loop-n-test.true p w.if-comment.false w.comment-is w.if-b-eq35.true
-        | else-comment+else-b-eq35+else-not-is_blank w ↦ skip_on-blank _ _ bs _ c.loop-n-test.true p w.if-comment.false w.comment-is (sym w.if-not-is_blank.ensures)
+        | else-comment+else-b-eq35+else-not-is_blank w ↦ skip_on_blank _ _ bs _ c.loop-n-test.true p w.if-comment.false w.comment-is (sym w.if-not-is_blank.ensures)
       ],
     )
 
