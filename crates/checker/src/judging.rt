@@ -13,7 +13,7 @@ use std::alloc::{AllocError, Global};
 use std::env::FillError;
 use std::fmt::Display;
 use std::io;
-use std::io::{BufReader, Read};
+use std::io::{ErrorKind, Read};
 use std::rt::Env;
 use std::str::from_utf8;
 
@@ -157,19 +157,33 @@ impl Judging {
         }
     }
 
+    // Judges the texts whose names end in these bytes, one a line; `name` is what the bytes before them began.
+    fn lines(&mut self, rt: &HostRuntime, name: &mut Name, bytes: &[u8]) -> io::Result<()> {
+        for byte in bytes {
+            if *byte == b'\n' {
+                self.line(rt, name)?;
+                name.clear();
+            } else {
+                name.push(*byte);
+            }
+        }
+        Ok(())
+    }
+
     // Judges the texts that standard input names, one a line.
     pub fn listed(&mut self, rt: &HostRuntime) -> io::Result<()> {
         let mut name = Name::new();
-        for byte in BufReader::new(rt.alloc(), rt.stdin())?.bytes() {
-            match byte {
-                Ok(b'\n') => {
-                    self.line(rt, &name)?;
-                    name.clear();
-                }
-                Ok(b) => name.push(b),
+        let mut stdin = rt.stdin();
+        let mut buf = [0u8; NAME_BYTES];
+        for _ in 0..u64::MAX {
+            match stdin.read(&mut buf) {
+                Ok(0) => break,
+                Ok(n) => self.lines(rt, &mut name, &buf[0..n])?,
                 Err(e) => {
-                    self.tally.count(Outcome::Unread);
-                    return eprintln!(rt; "check: -: {e}");
+                    if e.kind() != ErrorKind::Interrupted {
+                        self.tally.count(Outcome::Unread);
+                        return eprintln!(rt; "check: -: {e}");
+                    }
                 }
             }
         }
