@@ -153,9 +153,9 @@ wf_closed (env_more {e} c w r) i p = get_snoc e c i p (λ q. wf_closed w i q) (�
 
 -- bodies of definitions are closed
 body_closed : (d : Entry) {t : Term} → ClosedEntry d → entry_body d ≡ some t → Scoped 0 t
-body_closed (defined t a) s p = tr (Scoped 0) (some_inj p) s.0
-body_closed (assumed a) s p = none-some p
-body_closed (inductive k) s p = none-some p
+body_closed (defined t a) s p = grind arith
+body_closed (assumed a) s p = grind arith
+body_closed (inductive k) s p = grind arith
 
 pub delta_closed : (e : Env) → WfEnv e → (h : Head) {t : Term} → delta e h ≡ some t → Scoped 0 t
 delta_closed e w (h_def i) p = bind-some (get_elem? e i) entry_body p λ d q r. body_closed d (wf_closed w i q) r

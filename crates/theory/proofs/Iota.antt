@@ -1,11 +1,11 @@
 -- The steps of recursors and eliminations: iota, which is contract without beta.
 -- Two views say when a recursor or an elimination reduces, one field for each test.
-use Rattle.std.proofs.Common.{◌≡◌, refl, sym, ap, ◌∙◌, true, List, [], ◌∷◌, ◌++◌, append_assoc, ℕ, ◌+◌, length, take, drop, eqb-true, eq-eqb}
+use Rattle.std.proofs.Common.{◌≡◌, refl, sym, ap, ◌∙◌, true, List, [], ◌∷◌, ◌++◌, append_assoc, ℕ, ◌+◌, length, eqb-true, eq-eqb}
 use mathlib.Core.Option.{Option, some, none}
 use lib.ListN.{get_elem?}
 use Rattle.theory.specs.Terms.{Head, h_def, h_data, h_con, h_rec, h_eq, h_refl, h_along, Term, var, const, sort, pi, lam, app, subst, apps}
 use Rattle.theory.specs.Environment.{Constructor, DataType, Env, data_at}
-use Rattle.theory.specs.Reduction.{bind, spine, ConAt, con_of, is_refl, last_arg, app_each, iota_rec, iota_along, iota_head, beta, contract}
+use Rattle.theory.specs.Reduction.{bind, spine, ConAt, con_of, is_refl, last_arg, rec_arity, case_place, case_args, iota_rec, iota_along, iota_head, beta, contract}
 use Rattle.theory.proofs.Options.{none-some, some_inj, false-true, bind-some, cond-some, cond-eqb, and_true, or_else_some}
 
 -- what the application f a reduces to as a recursor or an elimination
@@ -47,16 +47,11 @@ last_append [] a = refl
 last_append (b ∷ []) a = refl
 last_append (b ∷ c ∷ as₁) a = last_append (c ∷ as₁) a
 
--- what a recursor with arguments as₁ reduces to: case m at the constructor's arguments bs
-abbrev pub rec_reduct : ℕ → ℕ → DataType → Constructor → List Term → Term → List Term → Term
-rec_reduct i j k c as₁ m bs =
-    apps m (drop (length k.params) bs ++ app_each (apps (const (h_rec i j)) (take (length k.params + (1 + length k.cons)) as₁)) (drop (length k.params + length c.fields) bs))
-
 -- recursor i, j applied to as₁ reduces to t
 pub record RecView (e : Env) (i j : ℕ) (as₁ : List Term) (t : Term) : Type 0 where
   pub k : DataType
   pub at : data_at e i ≡ some k
-  pub len : length as₁ ≡ length k.params + (2 + length k.cons)
+  pub len : length as₁ ≡ rec_arity k
   pub s : Term
   pub last : last_arg as₁ ≡ some s
   pub n : ℕ
@@ -65,8 +60,8 @@ pub record RecView (e : Env) (i j : ℕ) (as₁ : List Term) (t : Term) : Type 0
   pub con : get_elem? k.cons n ≡ some c
   pub full : length (spine s []).args ≡ length k.params + (length c.fields + c.recs)
   pub m : Term
-  pub case : get_elem? as₁ (length k.params + (1 + n)) ≡ some m
-  pub is : t ≡ rec_reduct i j k c as₁ m (spine s []).args
+  pub case : get_elem? as₁ (case_place k n) ≡ some m
+  pub is : t ≡ apps m (case_args i j k c as₁ (spine s []).args)
 
 -- elimination applied to as₁ reduces to t
 pub record AlongView (as₁ : List Term) (t : Term) : Type 0 where
@@ -101,7 +96,7 @@ rec_view e i j as₁ t p =
     bind-some (data_at e i) _ p λ k at p₁. cond-eqb _ _ _ p₁ λ len p₂.
     bind-some (last_arg as₁) _ p₂ λ s last p₃. bind-some (spine s []).head _ p₃ λ h head p₄. bind-some (con_of h) _ p₄ λ x con_is p₅.
     con_of-some h con_is λ h_is. cond-eqb _ _ _ p₅ λ same p₆. bind-some (get_elem? k.cons x.con) _ p₆ λ c con p₇. cond-eqb _ _ _ p₇ λ full p₈.
-    bind-some (get_elem? as₁ (length k.params + (1 + x.con))) _ p₈ λ m case p₉.
+    bind-some (get_elem? as₁ (case_place k x.con)) _ p₈ λ m case p₉.
     record { k = k; at = at; len = len; s = s; last = last; n = x.con; head = head ∙ ap some (h_is ∙ ap (λ (z : ℕ). h_con z x.con) (sym same)); c = c; con = con; full = full; m = m; case = case; is = sym (some_inj p₉) }
 
 pub rec_view_out : (e : Env) (i j : ℕ) (as₁ : List Term) (t : Term) → RecView e i j as₁ t → iota_rec e i j as₁ ≡ some t

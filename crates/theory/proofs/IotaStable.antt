@@ -1,13 +1,13 @@
 -- The steps of recursors and eliminations are stable under any relation that keeps quiet spines.
 -- Instances: maps that commute with heads and application, as lift, subst and subst_all do.
-use Rattle.std.proofs.Common.{◌≡◌, refl, sym, ap, ap₂, ◌∙◌, subst as tr, subst₂ as tr₂, List, [], ◌∷◌, ◌++◌, ℕ, zero, suc, ◌+◌, ◌≤◌, ◌<◌, length, take, drop, length-append, arith, ne_eqb}
+use Rattle.std.proofs.Common.{◌≡◌, refl, sym, ap, ap₂, ◌∙◌, subst as tr, subst₂ as tr₂, List, [], ◌∷◌, ◌++◌, ℕ, zero, suc, ◌+◌, ◌-◌, ◌≤◌, ◌<◌, length, take, drop, length-append, arith, ne_eqb}
 use mathlib.Core.Option.{some, none}
 use lib.ListN.{get_elem?}
 use Rattle.theory.specs.Terms.{Head, h_data, h_con, h_rec, h_eq, h_refl, h_along, Term, var, const, sort, pi, lam, app, lift, subst, subst_all, apps}
 use Rattle.theory.specs.Environment.{DataType, Env, data_at}
-use Rattle.theory.specs.Reduction.{spine, last_arg, app_each, iota_head, delta}
+use Rattle.theory.specs.Reduction.{spine, last_arg, app_each, iota_head, delta, rec_arity, case_place, case_args}
 use Rattle.theory.proofs.Options.{none-some, some_inj}
-use Rattle.theory.proofs.Iota.{iota, rec_reduct, spine_head, spine-args, RecView, AlongView, IotaView, by_rec, by_along, iota_view, iota_by_rec, iota_by_along}
+use Rattle.theory.proofs.Iota.{iota, spine_head, spine-args, RecView, AlongView, IotaView, by_rec, by_along, iota_view, iota_by_rec, iota_by_along}
 
 -- a head that does not reduce on up to n arguments
 pub record Quiet (e : Env) (h : Head) (n : ℕ) : Type 0 where
@@ -29,8 +29,8 @@ quiet_eq e i n = record { no_delta = refl; no_iota = λ as₁ l. refl }
 pub quiet_refl : (e : Env) (i n : ℕ) → Quiet e (h_refl i) n
 quiet_refl e i n = record { no_delta = refl; no_iota = λ as₁ l. refl }
 
-pub quiet_rec : (e : Env) (i j n : ℕ) {k : DataType} → data_at e i ≡ some k → n < length k.params + (2 + length k.cons) → Quiet e (h_rec i j) n
-quiet_rec e i j n {k} p l = record { no_delta = refl; no_iota = λ as₁ m. rw (p, ne_eqb (length as₁) (length k.params + (2 + length k.cons)) (omega arith)) refl }
+pub quiet_rec : (e : Env) (i j n : ℕ) {k : DataType} → data_at e i ≡ some k → n < rec_arity k → Quiet e (h_rec i j) n
+quiet_rec e i j n {k} p l = record { no_delta = refl; no_iota = λ as₁ m. rw (p, ne_eqb (length as₁) (rec_arity k) (omega arith)) refl }
 
 pub quiet_along : (e : Env) (i j n : ℕ) → n < 6 → Quiet e (h_along i j) n
 quiet_along e i j n l = record { no_delta = refl; no_iota = λ as₁ m. rw (ne_eqb (length as₁) 6 (omega arith)) refl }
@@ -99,13 +99,16 @@ module _ {e : Env} {R : Term → Term → Type 0} (laws : Laws e R) where
   pub stable_rec : (i j : ℕ) {as₁ bs : List Term} {t : Term} → RecView e i j as₁ t → Pairwise R as₁ bs → (u : Term) × RecView e i j bs u × R t u
   stable_rec i j {as₁} {bs} {t} v p =
       let (s, last, rs) = pw_last p v.last in
-      let (m, case, rm) = pw_get p (length v.k.params + (1 + v.n)) v.case in
+      let (m, case, rm) = pw_get p (case_place v.k v.n) v.case in
       let (head, sp) = laws.spines v.s s (h_con i v.n) rs v.head (quiet_con e i v.n (length (spine v.s []).args)) in
       let n = length v.k.params + (1 + length v.k.cons) in
-      let r : R (apps (const (h_rec i j)) (take n as₁)) (apps (const (h_rec i j)) (take n bs)) = stable_apps (pw_take p n) (const (h_rec i j)) (const (h_rec i j)) (laws.heads (h_rec i j) refl) in (
-        rec_reduct i j v.k v.c bs m (spine s []).args,
+      let r : R (apps (const (h_rec i j)) (take n as₁)) (apps (const (h_rec i j)) (take n bs)) = stable_apps (pw_take p n) (const (h_rec i j)) (const (h_rec i j)) (laws.heads (h_rec i j) refl) in
+      let fields = pw_drop sp (length v.k.params) in
+      let found = stable_app_each (pw_drop sp (length v.k.params + length v.c.fields)) _ _ r in
+      let args : Pairwise R (case_args i j v.k v.c as₁ (spine v.s []).args) (case_args i j v.k v.c bs (spine s []).args) = search (pw_append, fields, found) in (
+        apps m (case_args i j v.k v.c bs (spine s []).args),
         record { k = v.k; at = v.at; len = sym (pw_length p) ∙ v.len; s = s; last = last; n = v.n; head = head; c = v.c; con = v.con; full = sym (pw_length sp) ∙ v.full; m = m; case = case; is = refl },
-        tr (λ z. R z (rec_reduct i j v.k v.c bs m (spine s []).args)) (sym v.is) (stable_apps (pw_append (pw_drop sp (length v.k.params)) (stable_app_each (pw_drop sp (length v.k.params + length v.c.fields)) _ _ r)) v.m m rm),
+        tr (λ z. R z (apps m (case_args i j v.k v.c bs (spine s []).args))) (sym v.is) (stable_apps args v.m m rm),
       )
 
   pub stable_along : {as₁ bs : List Term} {t : Term} → AlongView as₁ t → Pairwise R as₁ bs → (u : Term) × AlongView bs u × R t u
@@ -127,7 +130,7 @@ module _ {e : Env} {R : Term → Term → Type 0} (laws : Laws e R) where
     where
       go : IotaView e f a t → (u : Term) × (iota e g b ≡ some u) × R t u
       go (by_rec i j h v) =
-          let (head, sp) = stable_spine f g a b (h_rec i j) r s h (length v.k.params + (1 + length v.k.cons)) (v.len ∙ omega arith) (quiet_rec e i j _ v.at (omega arith)) in
+          let (head, sp) = stable_spine f g a b (h_rec i j) r s h (rec_arity v.k - 1) (v.len ∙ omega arith) (quiet_rec e i j _ v.at (omega arith)) in
           let (u, w, ru) = stable_rec i j v sp in
           (u, iota_by_rec e g b u i j head w, ru)
       go (by_along i j h v) =

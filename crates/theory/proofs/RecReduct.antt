@@ -7,8 +7,8 @@ use lib.Seq.{take-append_seam, drop-append_seam}
 use Rattle.theory.proofs.SubstAll.{get_append}
 use Rattle.theory.specs.Terms.{h_rec, Term, const, apps}
 use Rattle.theory.specs.Environment.{Constructor, DataType}
-use Rattle.theory.specs.Reduction.{app_each, last_arg}
-use Rattle.theory.proofs.Iota.{rec_reduct, last_append}
+use Rattle.theory.specs.Reduction.{app_each, last_arg, case_args}
+use Rattle.theory.proofs.Iota.{last_append}
 
 -- the parts of a list that is put together
 get_front : {A : Type 0} (xs ys : List A) (n : ℕ) → n < length xs → get_elem? (xs ++ ys) n ≡ get_elem? xs n
@@ -41,7 +41,7 @@ module _ (ps : List Term) (m : Term) (cs : List Term) (s : Term) where
 
   -- what the recursor reduces to, with the constructor's arguments split too
   pub reduct_is : (i j : ℕ) (k : DataType) (c : Constructor) (x : Term) (qs fs rs : List Term) → length ps ≡ length k.params → length cs ≡ length k.cons → length qs ≡ length k.params → length fs ≡ length c.fields
-      → rec_reduct i j k c all_args x (qs ++ (fs ++ rs)) ≡ apps x ((fs ++ rs) ++ app_each (apps (const (h_rec i j)) (ps ++ (m ∷ cs))) rs)
+      → apps x (case_args i j k c all_args (qs ++ (fs ++ rs))) ≡ apps x ((fs ++ rs) ++ app_each (apps (const (h_rec i j)) (ps ++ (m ∷ cs))) rs)
   reduct_is i j k c x qs fs rs p q r l =
       let y : take (length k.params + (1 + length k.cons)) all_args ≡ ps ++ (m ∷ cs) = take_cases (length k.params + (1 + length k.cons)) (omega arith) in
       let z : drop (length k.params) (qs ++ (fs ++ rs)) ≡ fs ++ rs = drop_front qs (fs ++ rs) (length k.params) (omega arith) in

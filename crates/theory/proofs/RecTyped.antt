@@ -1,15 +1,15 @@
 -- A step of a recursor keeps the type.
 -- The arguments of the recursor and of the constructor are split as their types say, and the case is applied to the parts.
-use Rattle.std.proofs.Common.{◌≡◌, sym, ap, ap₂, ◌∙◌, subst as tr, List, [], ◌++◌, reverse, ℕ, ◌+◌, length, arith}
+use Rattle.std.proofs.Common.{◌≡◌, sym, ap, ap₂, ◌∙◌, subst as tr, List, [], ◌++◌, reverse, ℕ, arith}
 use mathlib.Core.Option.{some}
 use lib.ListN.{get_elem?}
 use Rattle.theory.specs.Terms.{h_data, h_con, h_rec, Term, const, app, apps}
 use Rattle.theory.specs.Environment.{Env}
-use Rattle.theory.specs.Reduction.{spine, last_arg, conv_refl}
+use Rattle.theory.specs.Reduction.{spine, last_arg, conv_refl, case_place, case_args}
 use Rattle.theory.specs.Typing.{HasType, t_conv, WfEnv, WfContext}
 use Rattle.theory.proofs.Options.{some_inj}
 use Rattle.theory.proofs.Closed.{get_below}
-use Rattle.theory.proofs.Iota.{rec_reduct, RecView, spine_is}
+use Rattle.theory.proofs.Iota.{RecView, spine_is}
 use Rattle.theory.proofs.IotaStable.{pw_append}
 use Rattle.theory.proofs.Conversion.{conv_trans, conv_eq, conv_app, conv_apps}
 use Rattle.theory.proofs.Injectivity.{pw_conv_refl, pw_conv_sym}
@@ -25,10 +25,10 @@ module _ {e : Env} (w : WfEnv e) {g : List Term} (c : WfContext e g) (i j : ℕ)
   step_typed : (r : RecArgs e g i j v.k as₁ b) → ConArgs e g i v.k v.c (spine v.s []).args r.ps → r.s ≡ v.s → HasType e g t b
   step_typed r q s_is =
       let m_at : get_elem? r.cs v.n ≡ some v.m =
-      sym (ap (λ (z : List Term). get_elem? z (length v.k.params + (1 + v.n))) r.is
-      ∙ get_case r.ps r.m r.cs r.s v.n (length v.k.params + (1 + v.n)) (omega (arith, r.ps_length)) (omega (arith, r.cs_length, get_below v.k.cons v.n v.con))) ∙ v.case in
+      sym (ap (λ (z : List Term). get_elem? z (case_place v.k v.n)) r.is
+      ∙ get_case r.ps r.m r.cs r.s v.n (case_place v.k v.n) (omega (arith, r.ps_length)) (omega (arith, r.cs_length, get_below v.k.cons v.n v.con))) ∙ v.case in
       let t_is : t ≡ _ =
-      v.is ∙ ap₂ (λ x y. rec_reduct i j v.k v.c x v.m y) r.is q.is
+      v.is ∙ ap₂ (λ x y. apps v.m (case_args i j v.k v.c x y)) r.is q.is
       ∙ reduct_is r.ps r.m r.cs r.s i j v.k v.c v.m q.qs q.fs q.rs r.ps_length r.cs_length q.qs_length q.fs_length in
       let con_is : v.s ≡ apps (const (h_con i v.n)) (q.qs ++ (q.fs ++ q.rs)) = spine_is v.s [] v.head ∙ ap (apps (const (h_con i v.n))) q.is in
       let typed = apply_case i v.n r.ps r.m v.c.recs (reverse r.ps) v.c.fields _ v.m q.fs q.rs

@@ -4,12 +4,12 @@ use Rattle.std.proofs.Common.{◌≡◌, refl, sym, ap, ◌∙◌, subst as tr, 
 use mathlib.Core.Option.{some}
 use Rattle.theory.specs.Terms.{Head, h_rec, h_along, h_con, h_refl, Term, var, const, sort, pi, lam, app, lift, subst, apps}
 use Rattle.theory.specs.Environment.{Env}
-use Rattle.theory.specs.Reduction.{spine, app_each, contract, Step, contracts, unfolds, in_fun, in_arg, in_pi, under_pi, in_lam, under_lam, Steps, no_steps, a_step}
+use Rattle.theory.specs.Reduction.{spine, app_each, contract, Step, contracts, unfolds, in_fun, in_arg, in_pi, under_pi, in_lam, under_lam, Steps, no_steps, a_step, case_place, case_args}
 use Rattle.theory.specs.Typing.{WfEnv}
 use Rattle.theory.proofs.Options.{none-some, some_inj, false-true}
 use Rattle.theory.proofs.Indices.{lift-subst, subst-subst}
 use Rattle.theory.proofs.Closed.{delta_closed, scoped_lift, scoped_subst}
-use Rattle.theory.proofs.Iota.{iota, rec_reduct, iota_contract, contract-some, RecView, AlongView, IotaView, by_rec, by_along, iota_view, iota_by_rec, iota_by_along}
+use Rattle.theory.proofs.Iota.{iota, iota_contract, contract-some, RecView, AlongView, IotaView, by_rec, by_along, iota_view, iota_by_rec, iota_by_along}
 use Rattle.theory.proofs.IotaStable.{Pairwise, pw_end, pw_more, pw_length, pw_append, pw_get, pw_take, pw_drop, iota_lift, iota_subst}
 use Rattle.theory.proofs.WeakHead.{needs_spine, Wh, wh_contracts, wh_unfolds, wh_fun, wh_arg, Whs, wh_done, wh_then, whs_append, whs_fun, whs_arg, spine_last, same_needs, reducing_spine}
 
@@ -139,12 +139,15 @@ rec_from : {e : Env} (i j : ℕ) {as₁ : List Term} {t : Term} (v : RecView e i
     → (spine b []).head ≡ some (h_con i v.n) → Pairwise (From e) (spine v.s []).args (spine b []).args
     → (u : Term) × (iota e g b ≡ some u) × From e t u
 rec_from {e} i j {as₁} {t} v g b h p head sp =
-    let (m, case, rm) = pw_get p (length v.k.params + (1 + v.n)) v.case in
+    let (m, case, rm) = pw_get p (case_place v.k v.n) v.case in
     let rec_part = from_apps (pw_take p (length v.k.params + (1 + length v.k.cons))) (st_refl (const (h_rec i j))) in
-    let u = rec_reduct i j v.k v.c (spine (app g b) []).args m (spine b []).args in (
+    let fields = pw_drop sp (length v.k.params) in
+    let found = from_app_each (pw_drop sp (length v.k.params + length v.c.fields)) rec_part in
+    let args : Pairwise (From e) (case_args i j v.k v.c as₁ (spine v.s []).args) (case_args i j v.k v.c (spine (app g b) []).args (spine b []).args) = search (pw_append, fields, found) in
+    let u = apps m (case_args i j v.k v.c (spine (app g b) []).args (spine b []).args) in (
       u,
       iota_by_rec e g b u i j h (record { k = v.k; at = v.at; len = sym (pw_length p) ∙ v.len; s = b; last = spine_last g b; n = v.n; head = head; c = v.c; con = v.con; full = sym (pw_length sp) ∙ v.full; m = m; case = case; is = refl }),
-      tr (λ z. From e z u) (sym v.is) (from_apps (pw_append (pw_drop sp (length v.k.params)) (from_app_each (pw_drop sp (length v.k.params + length v.c.fields)) rec_part)) rm),
+      tr (λ z. From e z u) (sym v.is) (from_apps args rm),
     )
 
 along_from : {e : Env} (i j : ℕ) {as₁ : List Term} {t : Term} (v : AlongView as₁ t) (g b : Term)

@@ -1,12 +1,12 @@
 -- Weak-head steps: the redex at the head of a spine, or in the last argument that a recursor or an elimination needs.
 -- A weak-head step is the normal-order step, and a term that takes one is no variable, sort, function type or function.
-use Rattle.std.proofs.Common.{◌≡◌, refl, sym, ap, ◌∙◌, Bool, true, false, List, [], ◌∷◌, ℕ, suc, ◌+◌, ◌<◌, arith, length, eqb, eqb-true, ne_eqb}
+use Rattle.std.proofs.Common.{◌≡◌, refl, sym, ap, ◌∙◌, Bool, true, false, List, [], ◌∷◌, ℕ, suc, ◌<◌, arith, length, eqb, eqb-true, ne_eqb}
 use mathlib.Core.Option.{some, none}
 use Rattle.theory.proofs.Options.{none-some, some_inj, false-true, cases_option, cases_bool, bind-some, option-true}
 use Rattle.theory.proofs.Iota.{spine_head, spine-args, last_append, beta-some, contract-some}
 use Rattle.theory.specs.Terms.{Head, h_def, h_data, h_con, h_rec, h_eq, h_refl, h_along, Term, var, const, sort, pi, lam, app, option}
 use Rattle.theory.specs.Environment.{Env, data_at}
-use Rattle.theory.specs.Reduction.{bind, Spine, spine, con_of, is_refl, last_arg, iota_head, needs_last, beta, contract, delta, normal_step}
+use Rattle.theory.specs.Reduction.{bind, Spine, spine, con_of, is_refl, last_arg, iota_head, needs_last, beta, contract, delta, normal_step, rec_arity}
 use Rattle.theory.specs.Typing.{is_pi, is_sort}
 
 -- Does the head of a spine have to look at its last argument? Does f applied to a have to look at a?
@@ -34,7 +34,7 @@ needs_exactly e (h_def i) n m p l = false-true p
 needs_exactly e (h_data i) n m p l = false-true p
 needs_exactly e (h_con i k) n m p l = false-true p
 needs_exactly e (h_rec i j) n m p l =
-    option-true (data_at e i) _ p λ k k_at q. rw k_at (ne_eqb m _ (λ r. let z : n ≡ length k.params + (2 + length k.cons) = eqb-true n _ q in omega arith))
+    option-true (data_at e i) _ p λ k k_at q. rw k_at (ne_eqb m _ (λ r. let z : n ≡ rec_arity k = eqb-true n _ q in omega arith))
 needs_exactly e (h_eq i) n m p l = false-true p
 needs_exactly e (h_refl i) n m p l = false-true p
 needs_exactly e (h_along i j) n m p l = ne_eqb m 6 (λ r. let z : n ≡ 6 = eqb-true n 6 p in omega arith)
@@ -142,7 +142,7 @@ active_last e (h_data i) as₁ t l act = refl
 active_last e (h_con i k) as₁ t l act = refl
 active_last e (h_rec i j) as₁ t l act =
     cases_option (data_at e i) (λ q. rw q) λ k q.
-    cases_bool (eqb (length as₁) (length k.params + (2 + length k.cons))) (λ r.
+    cases_bool (eqb (length as₁) (rec_arity k)) (λ r.
     cases_option (spine t []).head (λ s. rw (q, r, l, s)) (λ h s. rw (q, r, l, s, (act h s).0)))
     (λ r. rw (q, r))
 active_last e (h_eq i) as₁ t l act = refl

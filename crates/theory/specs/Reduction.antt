@@ -3,7 +3,7 @@ use Rattle.std.specs.Prelude.{◌≡◌, Bool, true, false, ◌&&◌, cond, List
 use Rattle.std.proofs.Math.Option.{Option, some, none}
 use Rattle.std.proofs.Math.ListN.{get_elem?}
 use Rattle.theory.specs.Terms.{Head, h_def, h_data, h_con, h_rec, h_eq, h_refl, h_along, Term, var, const, sort, pi, lam, app, option, subst, apps}
-use Rattle.theory.specs.Environment.{DataType, Env, entry_body, data_at}
+use Rattle.theory.specs.Environment.{Constructor, DataType, Env, entry_body, data_at}
 
 -- On options: the second where the first is none; a function of what is there; a function that may give none.
 abbrev pub or_else : {A : Type 0} → Option A → Option A → Option A
@@ -66,15 +66,27 @@ abbrev pub app_each : Term → List Term → List Term
 app_each r [] = []
 app_each r (a ∷ as₁) = app r a ∷ app_each r as₁
 
--- The recursor of data type i, applied to as₁, on constructor t applied to bs, if that has all its arguments: its case, applied to the
--- constructor's fields and recursive fields, and to the recursor on each recursive field.
+-- The number of arguments with which the recursor of a data type reduces: parameters, motive, cases, scrutinee.
+abbrev pub rec_arity : DataType → ℕ
+rec_arity k = length k.params + (2 + length k.cons)
+
+-- The place of the case of constructor n among these.
+abbrev pub case_place : DataType → ℕ → ℕ
+case_place k n = length k.params + (1 + n)
+
+-- What the case of constructor c is applied to, if the recursor has the arguments as₁ and the constructor bs: the constructor's fields
+-- and recursive fields, and the recursor on each recursive field.
+abbrev pub case_args : ℕ → ℕ → DataType → Constructor → List Term → List Term → List Term
+case_args i j k c as₁ bs =
+    drop (length k.params) bs ++ app_each (apps (const (h_rec i j)) (take (length k.params + (1 + length k.cons)) as₁)) (drop (length k.params + length c.fields) bs)
+
+-- The recursor of data type i, applied to as₁, on constructor t applied to bs, if that has all its arguments: its case, applied.
 abbrev pub iota_case : ℕ → ℕ → DataType → List Term → ConAt → List Term → Option Term
 iota_case i j k as₁ t bs =
     cond (eqb i t.index)
     (bind (get_elem? k.cons t.con) (λ c.
     cond (eqb (length bs) (length k.params + (length c.fields + c.recs)))
-    (bind (get_elem? as₁ (length k.params + (1 + t.con))) (λ m.
-    some (apps m (drop (length k.params) bs ++ app_each (apps (const (h_rec i j)) (take (length k.params + (1 + length k.cons)) as₁)) (drop (length k.params + length c.fields) bs)))))
+    (bind (get_elem? as₁ (case_place k t.con)) (λ m. some (apps m (case_args i j k c as₁ bs))))
     none))
     none
 
@@ -82,7 +94,7 @@ iota_case i j k as₁ t bs =
 abbrev pub iota_rec : Env → ℕ → ℕ → List Term → Option Term
 iota_rec e i j as₁ =
     bind (data_at e i) (λ k.
-    cond (eqb (length as₁) (length k.params + (2 + length k.cons)))
+    cond (eqb (length as₁) (rec_arity k))
     (bind (last_arg as₁) (λ t. bind (spine t []).head (λ h. bind (con_of h) (λ c. iota_case i j k as₁ c (spine t []).args))))
     none)
 
@@ -108,7 +120,7 @@ abbrev pub needs_last : Env → Head → ℕ → Bool
 needs_last e (h_def i) n = false
 needs_last e (h_data i) n = false
 needs_last e (h_con i k) n = false
-needs_last e (h_rec i j) n = option (data_at e i) false (λ k. eqb n (length k.params + (2 + length k.cons)))
+needs_last e (h_rec i j) n = option (data_at e i) false (λ k. eqb n (rec_arity k))
 needs_last e (h_eq i) n = false
 needs_last e (h_refl i) n = false
 needs_last e (h_along i j) n = eqb n 6
