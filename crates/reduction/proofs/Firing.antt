@@ -2,11 +2,11 @@
 use Rattle.std.proofs.Common.{◌≡◌, ℕ, zero, suc, ◌+◌, ◌<◌, Bool, true, false, cond, eqb, List, [], ◌∷◌, length, sym, refl, ap, ◌∙◌, arith, eq-eqb, eqb-true}
 use mathlib.Core.Option.{Option, some, none}
 use lib.ListN.{get_elem?}
-use Rattle.theory.specs.Terms.{Head, h_def, h_data, h_con, h_rec, h_eq, h_refl, h_along, Term, var, const, sort, pi, lam, app, option}
+use Rattle.theory.specs.Terms.{Head, h_def, h_data, h_con, h_rec, h_eq, h_refl, h_along, Term, var, const, sort, pi, lam, app, option, apps}
 use Rattle.theory.specs.Environment.{Constructor, DataType, Env, data_at}
-use Rattle.theory.specs.Reduction.{spine, last_arg, contract, needs_last}
+use Rattle.theory.specs.Reduction.{spine, last_arg, case_args, contract, needs_last}
 use Rattle.theory.proofs.Options.{none-some, some_inj, true-false, false-true, cases_option, cases_bool}
-use Rattle.theory.proofs.Iota.{spine-args, last_append, rec_reduct, IotaView, by_rec, by_along, iota_view, iota_by_rec, iota_by_along, iota_contract, contract-some}
+use Rattle.theory.proofs.Iota.{spine-args, last_append, IotaView, by_rec, by_along, iota_view, iota_by_rec, iota_by_along, iota_contract, contract-some}
 use Rattle.theory.proofs.WeakHead.{needs_arg}
 use Rattle.terms.specs.Words.{root}
 use Rattle.terms.specs.declared.sign.Sign.{Sign}
@@ -59,7 +59,7 @@ pub rec_fires : (e : Env) (f a : Term) (i j : ℕ) → head_of (head_term f) ≡
 rec_fires e f a i j p n true q = fits_con e i (head_of (head_term a)) (uses a) (sym q) λ k m c h d g l.
     let len = needs_rec e f a i j k p d n in
     let (x, case) = get_there (spine f (a ∷ [])).args (length k.params + (1 + m)) (omega (arith, len, get_below k.cons m g)) in
-    let u = rec_reduct i j k c (spine f (a ∷ [])).args x (spine a []).args in (
+    let u = apps x (case_args i j k c (spine f (a ∷ [])).args (spine a []).args) in (
       u,
       iota_contract e f a u (iota_by_rec e f a u i j (spine_head_is f (a ∷ []) ∙ p)
           (record { k = k; at = d; len = len; s = a; last = last_is f a; n = m; head = spine_head_is a [] ∙ h; c = c; con = g; full = alone_length a ∙ l; m = x; case = case; is = refl })),
