@@ -10,8 +10,8 @@ use Rattle.terms.specs.Writing.{Appends}
 use Rattle.terms.proofs.Nodes.{put_append, put-length, scoped_small}
 use Rattle.terms.proofs.Appending.{append_as}
 use Rattle.reduction.specs.Stepping.{Stands, Ready, StepsTo, RedexAt, Makes, Contractible, Findable}
-use Rattle.reduction.specs.declared.make.StepError.{StepError}
-use Rattle.reduction.specs.declared.make.StepError.TheVariants.{NoRoom, NoStack, NotYet}
+use Rattle.reduction.specs.declared.step.StepError.{StepError}
+use Rattle.reduction.specs.declared.step.StepError.TheVariants.{NoRoom, NoStack, NotYet}
 use Rattle.reduction.proofs.Standing.{stands_in, stands_here, stands_front}
 use Rattle.reduction.proofs.Staying.{stays_now}
 use Rattle.reduction.proofs.Within.{small_inside}

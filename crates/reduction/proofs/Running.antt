@@ -16,8 +16,8 @@ use Rattle.reduction.specs.declared.reduce.Aim.{Aim}
 use Rattle.reduction.specs.declared.reduce.Aim.TheVariants.{ToNormal, ToPi, ToSort, ToDomain}
 use Rattle.reduction.specs.declared.reduce.Reduced.TheVariants.{Reached}
 use Rattle.reduction.specs.declared.reduce.ReduceError.TheVariants.{UsedUp, NoRoom, NotYet}
-use Rattle.reduction.specs.declared.make.StepError.{StepError}
-use Rattle.reduction.specs.declared.make.StepError.TheVariants as stepping
+use Rattle.reduction.specs.declared.step.StepError.{StepError}
+use Rattle.reduction.specs.declared.step.StepError.TheVariants as stepping
 use Rattle.reduction.proofs.Standing.{stands_in}
 use Rattle.reduction.proofs.Staying.{stays_on}
 

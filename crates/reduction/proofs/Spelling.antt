@@ -16,7 +16,7 @@ use Rattle.reduction.specs.Spines.{uses, head_term, head_of, top_step}
 use Rattle.terms.specs.Copying.{Fits, Copies}
 use Rattle.terms.specs.declared.copy.WriteError.{WriteError}
 use Rattle.terms.specs.declared.copy.WriteError.TheVariants as writing
-use Rattle.reduction.specs.declared.make.StepError.TheVariants.{NoRoom}
+use Rattle.reduction.specs.declared.step.StepError.TheVariants.{NoRoom}
 use Rattle.reduction.specs.Stepping.{RowAt, AlongAt, Makes, step_error}
 use Rattle.reduction.proofs.Spreading.{twos, length_twos, spine_head_is, spine-length}
 

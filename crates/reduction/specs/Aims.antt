@@ -13,8 +13,8 @@ use Rattle.reduction.specs.declared.reduce.Reduced.{Reduced}
 use Rattle.reduction.specs.declared.reduce.Reduced.TheVariants.{Reached, Resting}
 use Rattle.reduction.specs.declared.reduce.ReduceError.{ReduceError}
 use Rattle.reduction.specs.declared.reduce.ReduceError.TheVariants.{UsedUp, NoRoom, NotYet}
-use Rattle.reduction.specs.declared.make.StepError.{StepError}
-use Rattle.reduction.specs.declared.make.StepError.TheVariants as stepping
+use Rattle.reduction.specs.declared.step.StepError.{StepError}
+use Rattle.reduction.specs.declared.step.StepError.TheVariants as stepping
 
 -- Is there nothing?
 abbrev pub is_none : {A : Type 0} → Option A → Bool

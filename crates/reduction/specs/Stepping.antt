@@ -13,8 +13,8 @@ use Rattle.reduction.specs.Spines.{top_step, head_term, head_of}
 use Rattle.reduction.specs.declared.find.Frame.{Frame}
 use Rattle.terms.specs.declared.copy.WriteError.{WriteError}
 use Rattle.terms.specs.declared.copy.WriteError.TheVariants as writing
-use Rattle.reduction.specs.declared.make.StepError.{StepError}
-use Rattle.reduction.specs.declared.make.StepError.TheVariants.{NoRoom, NoStack, NotYet}
+use Rattle.reduction.specs.declared.step.StepError.{StepError}
+use Rattle.reduction.specs.declared.step.StepError.TheVariants.{NoRoom, NoStack, NotYet}
 
 -- The term t stands from at to end.
 pub record Stands (ws : List ℕ) (at : ℕ) (t : Term) (end : ℕ) : Type 0 where

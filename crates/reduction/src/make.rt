@@ -8,33 +8,15 @@ ghost use Rattle.reduction.specs.Spines.{head_term, head_of, top_step};
 ghost use Rattle.terms.specs.Words.{At, puts};
 ghost use Rattle.terms.specs.Copying.{Fits, Copies};
 ghost use Rattle.reduction.specs.Store.{EnvAt};
-ghost use Rattle.reduction.specs.Stepping.{BetaAt, DeltaAt, RowAt, AlongAt, AppRedex, Contractible, Makes, step_error};
+ghost use Rattle.reduction.specs.Stepping.{BetaAt, DeltaAt, RowAt, AlongAt, AppRedex, Contractible, Makes};
 
 use crate::spine::count_uses;
+use crate::step::StepError;
 use crate::store::{Environment, Found};
 use terms::copy::{WriteError, copy_term};
 use terms::sign::{Sign, sign_at};
 use terms::subst::subst;
 use terms::walk::end_of;
-
-// Why there is no step: there is no room; the stack is too short; the redex is a recursor's, which is not coded yet.
-#[derive(Clone, Copy, Debug, PartialEq, Eq)]
-pub enum StepError {
-    NoRoom,
-    NoStack,
-    NotYet,
-}
-
-impl From<WriteError> for StepError {
-    ghost from_gives = { λ e x. x ≡ step_error e };
-
-    fn from(e: WriteError) -> StepError {
-        match e {
-            WriteError::NoRoom => StepError::NoRoom,
-            WriteError::NoStack => StepError::NoStack,
-        }
-    }
-}
 
 // A function on its argument: its body with the argument put in.
 fn make_beta(

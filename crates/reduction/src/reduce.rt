@@ -8,8 +8,7 @@ ghost use Rattle.reduction.specs.Stepping.{Stands, Ready, Findable};
 ghost use Rattle.reduction.specs.Aims.{Reduces, Met, domain_rests_lem, resting, reduce_error};
 
 use crate::find::find;
-use crate::make::StepError;
-use crate::step::{has_step, step};
+use crate::step::{StepError, has_step, step};
 use crate::store::Environment;
 use terms::sign::{Sign, sign_at};
 

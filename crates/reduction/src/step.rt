@@ -4,13 +4,32 @@ ghost use Rattle.theory.specs.Terms.{Term, size};
 ghost use Rattle.theory.specs.Environment.{Env};
 ghost use Rattle.terms.specs.Words.{At};
 ghost use Rattle.reduction.specs.Store.{EnvAt};
-ghost use Rattle.reduction.specs.Stepping.{Stands, Ready, HasStep, StepsTo, Replaceable, Replaces};
+ghost use Rattle.reduction.specs.Stepping.{Stands, Ready, HasStep, StepsTo, Replaceable, Replaces, step_error};
 
 use crate::find::find;
-use crate::make::{StepError, contract_into};
+use crate::make::contract_into;
 use crate::store::Environment;
-use terms::copy::copy_words;
+use terms::copy::{WriteError, copy_words};
 use terms::walk::end_of;
+
+// Why there is no step: there is no room; the stack is too short; the redex is a recursor's, which is not coded yet.
+#[derive(Clone, Copy, Debug, PartialEq, Eq)]
+pub enum StepError {
+    NoRoom,
+    NoStack,
+    NotYet,
+}
+
+impl From<WriteError> for StepError {
+    ghost from_gives = { λ e x. x ≡ step_error e };
+
+    fn from(e: WriteError) -> StepError {
+        match e {
+            WriteError::NoRoom => StepError::NoRoom,
+            WriteError::NoStack => StepError::NoStack,
+        }
+    }
+}
 
 // Has the term that stands from `at` to `end` a normal-order step? Nothing is written. None: the stack is too short to find out.
 pub fn has_step(

@@ -1,6 +1,6 @@
 use Rattle.std.proofs.Common.{◌≡◌, ◌+◌, ◌≤◌, [], length, refl, arith, rules}
 use Rattle.std.proofs.lemmas.Result.{err_from_is_err_and}
-use Rattle.reduction.specs.declared.make.StepError.TheVariants.{NoRoom}
+use Rattle.reduction.specs.declared.step.StepError.TheVariants.{NoRoom}
 use Rattle.reduction.proofs.Standing.{stands_in}
 use Rattle.reduction.proofs.Replacing.{slice_is, slice_findable, slice_contractible, redex_there, heap_at, redex_ends, stepped_words, too_long, unstepped, unmade, made_within}
 use Rattle.reduction.proofs.step.step.Goals as goal
