@@ -85,20 +85,6 @@ along_room ws at x =
     omega (arith, ap length r.here, length-drop (at + 21) ws, puts-length r.terms r.rest, length-sizes r.terms, r.enough)
 
 -- A redex that is an application is a function on its argument, an elimination, or a recursor's, and then the environment has a data type.
-pub app_of : (t : Term) → App ≡ root t → (f a : Term) × (t ≡ app f a)
-app_of (var x) p = absurd (let z : ◌≡◌ {A = ℕ} 0 1 = cc in omega arith)
-app_of (const (h_def i)) p = absurd (let z : ◌≡◌ {A = ℕ} 0 1 = cc in omega arith)
-app_of (const (h_data i)) p = absurd (let z : ◌≡◌ {A = ℕ} 0 1 = cc in omega arith)
-app_of (const (h_con i j)) p = absurd (let z : ◌≡◌ {A = ℕ} 0 1 = cc in omega arith)
-app_of (const (h_rec i j)) p = absurd (let z : ◌≡◌ {A = ℕ} 0 1 = cc in omega arith)
-app_of (const (h_eq i)) p = absurd (let z : ◌≡◌ {A = ℕ} 0 1 = cc in omega arith)
-app_of (const (h_refl i)) p = absurd (let z : ◌≡◌ {A = ℕ} 0 1 = cc in omega arith)
-app_of (const (h_along i j)) p = absurd (let z : ◌≡◌ {A = ℕ} 0 1 = cc in omega arith)
-app_of (sort i) p = absurd (let z : ◌≡◌ {A = ℕ} 0 1 = cc in omega arith)
-app_of (pi a b) p = absurd (let z : ◌≡◌ {A = ℕ} 0 1 = cc in omega arith)
-app_of (lam a b) p = absurd (let z : ◌≡◌ {A = ℕ} 0 1 = cc in omega arith)
-app_of (app f a) p = (f, a, refl)
-
 pub def_of : (t : Term) (i : ℕ) → Def i ≡ root t → t ≡ const (h_def i)
 def_of (var x) i p = absurd (let z : ◌≡◌ {A = ℕ} 0 1 = cc in omega arith)
 def_of (const (h_def j)) i p = (let z : j ≡ i = cc in ap (λ n. const (h_def n)) z)

@@ -1,5 +1,5 @@
 // A term in words as a head applied to arguments.
-ghost use Rattle.std.specs.Prelude.{◌≡◌, ℕ, ◌+◌, ◌*◌, ◌^◌, ◌<◌, ◌≤◌, true, List, length};
+ghost use Rattle.std.specs.Prelude.{◌≡◌, ℕ, ◌+◌, ◌*◌, ◌^◌, ◌<◌, ◌≤◌, true, List, length, IfSome};
 ghost use Rattle.theory.specs.Terms.{Term, app};
 ghost use Rattle.theory.specs.Environment.{Env};
 ghost use Rattle.theory.proofs.WeakHead.{needs_arg};
@@ -29,28 +29,26 @@ pub fn count_uses(words: &[u32], at: usize) -> usize
 {
     let mut place = at;
     let mut count = 0;
-    while words[place] == 2 {
+    while let Sign::App = sign_at(words, place) {
         place += 3;
         count += 1;
     }
     count
 }
 
-// The argument that a head has to look at, from 1, or 0.
-fn needed(env: Environment, head: Sign) -> usize
-    ensures small { result < 2 ^ 40 }
-    ensures two { 0 < result → 2 ≤ result }
+// The argument that a head has to look at, from 1, if there is one.
+fn needed(env: Environment, head: Sign) -> Option<usize>
+    ensures small { IfSome result (λ m. m < 2 ^ 40) }
+    ensures two { IfSome result (λ m. 2 ≤ m) }
     ensures wants { (e : Env) (t : Term) → EnvAt env.entry.index.now env.entry.store.now e → head ≡ root t → Wants e t result }
 {
     match head {
         Sign::Rec(i, _) => {
-            let Some(numbers) = env.data_numbers(i) else {
-                return 0;
-            };
-            numbers.params as usize + (2 + numbers.cons as usize)
+            let numbers = env.data_numbers(i)?;
+            Some(numbers.params as usize + (2 + numbers.cons as usize))
         }
-        Sign::Along(_, _) => 6,
-        _ => 0,
+        Sign::Along(_, _) => Some(6),
+        _ => None,
     }
 }
 
@@ -144,13 +142,8 @@ pub fn look_at(env: Environment, words: &[u32], at: usize) -> Look
     if unfolds(env, head) {
         return Look::Redex(at + 3 * count);
     }
-    let argument = needed(env, head);
-    if argument == 0 {
-        return Look::Spread(count);
-    }
-    if argument <= count {
-        Look::Needs(count, argument)
-    } else {
-        Look::Spread(count)
+    match needed(env, head) {
+        Some(argument) if argument <= count => Look::Needs(count, argument),
+        _ => Look::Spread(count),
     }
 }
