@@ -1,18 +1,19 @@
 -- The environment with one entry more.
-use Rattle.std.proofs.Common.{◌≡◌, ℕ, suc, ◌+◌, ◌-◌, ◌*◌, ◌/◌, ◌%◌, ◌≤◌, ltb, List, [], ◌∷◌, ◌++◌, length, get_or, take, drop, set, sym, refl, ap, ◌∙◌, subst as tr, ap₂, arith, length-append, length-drop, length-set, ltb-false, ltb-true}
+use Rattle.std.proofs.Common.{◌≡◌, ℕ, suc, ◌+◌, ◌-◌, ◌*◌, ◌/◌, ◌%◌, ◌≤◌, ltb, List, [], ◌∷◌, ◌++◌, length, get_or, take, drop, sym, refl, ap, ◌∙◌, subst as tr, ap₂, arith, length-append, length-drop, ltb-false, ltb-true}
 use mathlib.Core.Option.{some}
 use lib.ListN.{get_elem?}
-use Rattle.std.proofs.lemmas.List.{get_or_append_left, get_or_at, get_or-append-add, drop-append-le, drop_at, length-take-le, take_at, take-take, take-append-drop, drop-take, drop-set-lt}
+use Rattle.std.proofs.lemmas.List.{get_or_append_left, get_or_at, get_or-append-add, drop-append-le, drop_at, length-take-le, take_at, take-take, take-append-drop, drop-take}
 use Rattle.theory.specs.Terms.{Term, size}
 use Rattle.theory.specs.Environment.{Constructor, Entry, defined, assumed, inductive, Env}
 use Rattle.theory.proofs.Options.{none-some, cases_bool}
 use Rattle.theory.proofs.Closed.{get_snoc}
-use Rattle.terms.specs.Words.{put, puts, number, At}
+use Rattle.terms.specs.Words.{put, puts, number, At, Holds}
 use Rattle.terms.specs.Writing.{Appends}
-use Rattle.terms.proofs.Nodes.{join, put_append, put-length}
-use Rattle.terms.proofs.Places.{at_words}
-use Rattle.terms.proofs.Appending.{append_as, append_to, append_then, append_one, append_three, append_stands}
+use Rattle.terms.proofs.Nodes.{join, put_append}
+use Rattle.terms.proofs.Places.{at_words, at_length}
+use Rattle.terms.proofs.Appending.{append_as, append_then, append_keeps, append_stands}
 use Rattle.reduction.specs.Store.{put_counts, put_fields, put_entry, place, EntryAt, EnvAt}
+use Rattle.reduction.specs.Lookup.{Declared}
 use Rattle.reduction.proofs.Storing.{entry_three, get_past}
 
 -- What follows an entry stands behind it.
@@ -92,57 +93,41 @@ declared index store index' store' count used e' end d l p q e v =
 words_of : (ws : List ℕ) (p q : ℕ) (t : Term) (r : List ℕ) → At ws p t r → q ≡ p + 3 * size t → drop p (take q ws) ≡ put t []
 words_of ws p q t r a e = ap (λ k. drop p (take k ws)) e ∙ at_words ws p t r a
 
-pub definition_words : (store s₁ s₂ s₃ ws : List ℕ) (used l m n o : ℕ) (a t : Term) (x y : List ℕ) (p q p' q' : ℕ)
-    → Appends store used (0 ∷ number (q - p) []) s₁ l → Appends s₁ l (drop p (take q ws)) s₂ m → Appends s₂ m (drop p' (take q' ws)) s₃ n
-    → At ws p a x → At ws p' t y → q ≡ p + 3 * size a → q' ≡ p' + 3 * size t → Appends store used (put_entry (defined t a) []) s₃ n
-definition_words store s₁ s₂ s₃ ws used l m n o a t x y p q p' q' f g h u v i j =
-    append_as store s₃ used n _ _
-    (ap (λ (k : ℕ). 0 ∷ k % 4294967296 ∷ k / 4294967296 ∷ (put a [] ++ put t [])) (let z : q - p ≡ 3 * size a = omega arith in z)
-    ∙ ap (λ (w : List ℕ). 0 ∷ (3 * size a) % 4294967296 ∷ (3 * size a) / 4294967296 ∷ w) (sym (put_append a [] (put t []))))
-    (append_then store s₁ s₃ used l n (0 ∷ number (q - p) []) (put a [] ++ put t []) f
-    (append_then s₁ s₂ s₃ l m n (put a []) (put t [])
-    (append_as s₁ s₂ l m _ _ (words_of ws p q a x u i) g) (append_as s₂ s₃ m n _ _ (words_of ws p' q' t y v j) h)))
+-- A term ends within the words.
+pub end_within : (ws : List ℕ) (p q : ℕ) (h : Holds ws p) → ((t : Term) (rest : List ℕ) → At ws p t rest → q ≡ p + 3 * size t) → q ≤ length ws
+end_within ws p q h k = omega (arith, k h.term h.rest h.at, at_length ws p h.term h.rest h.at)
 
-pub axiom_words : (store s₁ s₂ ws : List ℕ) (used l m : ℕ) (a : Term) (x : List ℕ) (p q : ℕ)
-    → Appends store used (1 ∷ number 0 []) s₁ l → Appends s₁ l (drop p (take q ws)) s₂ m → At ws p a x → q ≡ p + 3 * size a → Appends store used (put_entry (assumed a) []) s₂ m
-axiom_words store s₁ s₂ ws used l m a x p q f g u i = append_then store s₁ s₂ used l m (1 ∷ 0 ∷ 0 ∷ []) (put a []) f (append_as s₁ s₂ l m _ _ (words_of ws p q a x u i) g)
+-- The words of a type and a body, copied one behind the other.
+pub copied_two : (o s₁ s₂ ws : List ℕ) (l m n : ℕ) (a t : Term) (x y : List ℕ) (p q p' q' : ℕ) → Appends o l (drop p (take q ws)) s₁ m → Appends s₁ m (drop p' (take q' ws)) s₂ n
+    → At ws p a x → At ws p' t y → q ≡ p + 3 * size a → q' ≡ p' + 3 * size t → Appends o l (put a (put t [])) s₂ n
+copied_two o s₁ s₂ ws l m n a t x y p q p' q' f g u v i j =
+    append_as o s₂ l n _ _ (sym (put_append a [] (put t [])))
+    (append_then o s₁ s₂ l m n (put a []) (put t []) (append_as o s₁ l m _ _ (words_of ws p q a x u i) f) (append_as s₁ s₂ m n _ _ (words_of ws p' q' t y v j) g))
 
-pub definition_long : (t a : Term) → length (put_entry (defined t a) []) ≡ 3 + 3 * (size a + size t)
-definition_long t a = omega (arith, put-length a (put t []), put-length t [])
+pub copied_one : (o s₁ ws : List ℕ) (l m : ℕ) (a : Term) (x : List ℕ) (p q : ℕ) → Appends o l (drop p (take q ws)) s₁ m → At ws p a x → q ≡ p + 3 * size a → Appends o l (put a []) s₁ m
+copied_one o s₁ ws l m a x p q f u i = append_as o s₁ l m _ _ (words_of ws p q a x u i) f
 
-pub axiom_long : (a : Term) → length (put_entry (assumed a) []) ≡ 3 + 3 * size a
-axiom_long a = omega (arith, put-length a [])
+-- What was copied behind three words is entered with them.
+pub entered_copy : (index store s index' store' : List ℕ) (count used end : ℕ) (d : Entry) (new : List ℕ) → used + 3 ≤ length store → Appends store (used + 3) new s end
+    → Declared index s count used index' store' d new → (e : Env) → EnvAt (take (2 * count) index) (take used store) e → EnvAt (take (2 * (count + 1)) index') (take end store') (e ++ (d ∷ []))
+entered_copy index store s index' store' count used end d new h a f e v =
+    f e end (tr (λ w. EnvAt (take (2 * count) index) w e) (sym (append_keeps store s (used + 3) end used new (omega arith) h a)) v)
+    (record { ends = a.ends; words = a.words ∙ ap (λ w. w ++ new) (sym (append_keeps store s (used + 3) end (used + 3) new (omega arith) h a)) })
 
--- Three words put before others that stand there.
-pub marked : (s : List ℕ) (used a b c : ℕ) (new : List ℕ) (end : ℕ) → used + 3 ≤ length s → Appends s (used + 3) new s end
-    → Appends s used (a ∷ b ∷ c ∷ new) (set (set (set s used a) (used + 1) b) (used + 2) c) end
-marked s used a b c new end h p =
-    append_then s s' s' used (used + 3) end (a ∷ b ∷ c ∷ []) new (append_three s used a b c h)
+-- Words put before others that stand there.
+pub marked : (s s' : List ℕ) (used m end : ℕ) (head new : List ℕ) → Appends s used head s' m → drop m s' ≡ drop m s → m ≤ length s → Appends s m new s end → Appends s used (head ++ new) s' end
+marked s s' used m end head new f k h p =
+    append_then s s' s' used m end head new f
     (record {
       ends = p.ends;
       words =
-          ap (λ k. take k s') p.ends ∙ take_plus (used + 3) (length new) s'
-          ∙ ap (λ (w : List ℕ). take (used + 3) s' ++ take (length new) w) same_behind
-          ∙ ap (λ (w : List ℕ). take (used + 3) s' ++ take (length new) w) (append_stands s s (used + 3) end new h p)
-          ∙ ap (λ (w : List ℕ). take (used + 3) s' ++ w) (take_at new (drop end s) (length new) refl);
+          ap (λ n. take n s') p.ends ∙ take_plus m (length new) s'
+          ∙ ap (λ (w : List ℕ). take m s' ++ take (length new) w) (k ∙ append_stands s s m end new h p)
+          ∙ ap (λ (w : List ℕ). take m s' ++ w) (take_at new (drop end s) (length new) refl);
     })
   where
-    s' : List ℕ
-    s' = set (set (set s used a) (used + 1) b) (used + 2) c
-
-    same_behind : drop (used + 3) s' ≡ drop (used + 3) s
-    same_behind =
-        drop-set-lt (used + 3) (set (set s used a) (used + 1) b) (used + 2) c (omega arith)
-        ∙ drop-set-lt (used + 3) (set s used a) (used + 1) b (omega arith) ∙ drop-set-lt (used + 3) s used a (omega arith)
-
     take_plus : (m n : ℕ) (xs : List ℕ) → take (m + n) xs ≡ take m xs ++ take n (drop m xs)
     take_plus m n xs = sym (take-append-drop m (take (m + n) xs)) ∙ ap₂ ◌++◌ (take-take m (m + n) xs (omega arith)) (drop-take m n xs)
-
--- Two words.
-pub append_pair : (o : List ℕ) (l x y : ℕ) → l + 2 ≤ length o → Appends o l (x ∷ y ∷ []) (set (set o l x) (l + 1) y) (l + 2)
-append_pair o l x y h =
-    append_to o _ l (l + 1 + 1) (l + 2) _ (omega arith)
-    (append_then o _ _ l (l + 1) (l + 1 + 1) (x ∷ []) (y ∷ []) (append_one o l x (omega arith)) (append_one (set o l x) (l + 1) y (omega (arith, length-set o l x))))
 
 pub copied_long : (ws : List ℕ) (p q : ℕ) → p ≤ q → q ≤ length ws → length (drop p (take q ws)) ≡ q - p
 copied_long ws p q l h = length-drop p (take q ws) ∙ ap (λ k. k - p) (length-take-le q ws h)

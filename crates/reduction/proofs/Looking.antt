@@ -1,5 +1,5 @@
 -- What the head of a spine and the number of its arguments say of the pass.
-use Rattle.std.proofs.Common.{◌≡◌, ℕ, zero, suc, ◌+◌, ◌-◌, ◌*◌, ◌<◌, ◌≤◌, false, ◌⊎◌, sym, refl, ap, ◌∙◌, subst as tr, inl, inr, arith, eq-eqb, ne_eqb}
+use Rattle.std.proofs.Common.{◌≡◌, ℕ, zero, suc, ◌+◌, ◌-◌, ◌*◌, ◌<◌, ◌≤◌, false, Some, None, Option as Maybe, IfSome, sym, refl, ap, ◌∙◌, subst as tr, inl, inr, arith, eq-eqb, ne_eqb}
 use mathlib.Core.Option.{some}
 use Rattle.theory.specs.Terms.{h_def, h_data, h_con, h_rec, h_eq, h_refl, h_along, Term, var, const, sort, pi, lam, app, subst}
 use Rattle.theory.specs.Environment.{Env}
@@ -88,11 +88,11 @@ look_def e at t u n q p =
     (n, u, refl, omega arith, calm_to e n t (omega arith) (inl nl) (λ m x y. w (suc m)), ap (top_step e) h ∙ unfolding_top e (head_term t) p)
 
 -- A spine that does not look at an argument, and one that does.
-pub look_spread : (e : Env) (at : ℕ) (t : Term) (n m : ℕ) → n ≡ uses t → 0 < n → is_lam (head_term t) ≡ false → Wants e (head_term t) m → (m ≡ 0) ⊎ (n < m) → Looks e at t (Spread n)
-look_spread e at t n m q l nl w (inl z) = (l, q, calm_to e n t (omega arith) (inl nl) (λ k x y. w.at k ∙ ne_eqb (suc k) m (λ r. omega arith)))
-look_spread e at t n m q l nl w (inr z) = (l, q, calm_to e n t (omega arith) (inl nl) (λ k x y. w.at k ∙ ne_eqb (suc k) m (λ r. omega arith)))
+pub look_spread : (e : Env) (at : ℕ) (t : Term) (n : ℕ) (o : Maybe ℕ) → n ≡ uses t → 0 < n → is_lam (head_term t) ≡ false → Wants e (head_term t) o → IfSome o (λ m. n < m) → Looks e at t (Spread n)
+look_spread e at t n None q l nl w z = (l, q, calm_to e n t (omega arith) (inl nl) (λ k x y. w.at k))
+look_spread e at t n (Some m) q l nl w z = (l, q, calm_to e n t (omega arith) (inl nl) (λ k x y. w.at k ∙ ne_eqb (suc k) m (λ r. omega arith)))
 
-pub look_needs : (e : Env) (at : ℕ) (t : Term) (n m : ℕ) → n ≡ uses t → 2 ≤ m → m ≤ n → is_lam (head_term t) ≡ false → Wants e (head_term t) m → Looks e at t (Needs n m)
+pub look_needs : (e : Env) (at : ℕ) (t : Term) (n m : ℕ) → n ≡ uses t → 2 ≤ m → m ≤ n → is_lam (head_term t) ≡ false → Wants e (head_term t) (Some m) → Looks e at t (Needs n m)
 look_needs e at t n m q two l nl w = some-uses (strip (n - m) t) (omega (arith, strip-uses (n - m) t (omega arith))) λ f a is.
     let u : suc (uses f) ≡ m = omega (arith, ap uses is, strip-uses (n - m) t (omega arith)) in
     let h : head_term f ≡ head_term t = sym (ap head_term is) ∙ strip_head (n - m) t in (

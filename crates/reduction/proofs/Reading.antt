@@ -1,12 +1,12 @@
 -- The spine of a term, read off the words.
-use Rattle.std.proofs.Common.{◌≡◌, ℕ, ◌+◌, ◌*◌, ◌≤◌, false, List, length, get_or, sym, refl, ◌∙◌, subst as tr, ap₂, arith}
+use Rattle.std.proofs.Common.{◌≡◌, ℕ, ◌+◌, ◌*◌, ◌≤◌, false, List, length, sym, refl, ap, ◌∙◌, subst as tr, ap₂, arith}
 use mathlib.Core.Option.{some}
 use Rattle.theory.specs.Terms.{h_def, h_data, h_con, h_rec, h_eq, h_refl, h_along, Term, var, const, sort, pi, lam, app}
 use Rattle.terms.specs.Words.{At, Holds, root, put}
 use Rattle.terms.specs.declared.sign.Sign.{Sign}
-use Rattle.terms.specs.declared.sign.Sign.TheVariants.{Pi, Lam, Rec, Along}
-use Rattle.terms.proofs.Nodes.{tag}
-use Rattle.terms.proofs.Places.{at_three, holds_within}
+use Rattle.terms.specs.declared.sign.Sign.TheVariants.{Pi, Lam, App, Rec, Along}
+use Rattle.terms.proofs.Places.{holds_within}
+use Rattle.terms.proofs.Subterms.{at_function}
 use Rattle.reduction.specs.Spines.{uses, head_term, head_of, is_lam, HeadAt}
 
 -- On the way down: at place, count applications below the term at `at`, stands s.
@@ -25,48 +25,60 @@ pub record Down (ws : List ℕ) (at place count : ℕ) : Type 0 where
 pub down_start : (ws : List ℕ) (at : ℕ) → Holds ws at → Down ws at at 0
 down_start ws at h = record { placed = omega arith; within = holds_within ws at h; below = λ t rest a. record { term = t; rest = rest; at = a; counted = omega arith; head = refl } }
 
-app_below : (ws : List ℕ) (place count : ℕ) (t s : Term) (rest : List ℕ) → At ws place s rest → uses t ≡ count + uses s → head_term t ≡ head_term s → tag s ≡ 2
-    → Below ws (place + 3) (count + 1) t
-app_below ws place count t (var x) rest a c h g = absurd (omega arith)
-app_below ws place count t (const (h_def i)) rest a c h g = absurd (omega arith)
-app_below ws place count t (const (h_data i)) rest a c h g = absurd (omega arith)
-app_below ws place count t (const (h_con i k)) rest a c h g = absurd (omega arith)
-app_below ws place count t (const (h_rec i j)) rest a c h g = absurd (omega arith)
-app_below ws place count t (const (h_eq i)) rest a c h g = absurd (omega arith)
-app_below ws place count t (const (h_refl i)) rest a c h g = absurd (omega arith)
-app_below ws place count t (const (h_along i j)) rest a c h g = absurd (omega arith)
-app_below ws place count t (sort i) rest a c h g = absurd (omega arith)
-app_below ws place count t (pi x y) rest a c h g = absurd (omega arith)
-app_below ws place count t (lam x y) rest a c h g = absurd (omega arith)
-app_below ws place count t (app f x) rest a c h g =
-    record { term = f; rest = put x rest; at = record { stands = (at_three ws place (app f x) rest a).behind }; counted = omega arith; head = h }
+-- A sign that was read there.
+abbrev pub Read : List ℕ → ℕ → Sign → Type 0
+Read ws place s = (t : Term) (rest : List ℕ) → At ws place t rest → s ≡ root t
 
-pub down_on : (ws : List ℕ) (at place count : ℕ) → Holds ws at → Down ws at place count → get_or ws place 0 ≡ 2 → Down ws at (place + 3) (count + 1)
-down_on ws at place count h d g =
+pub from_app : (t : Term) → App ≡ root t → (f a : Term) × (t ≡ app f a)
+from_app (app f a) p = (f, a, refl)
+from_app (var x) p = absurd (let z : ◌≡◌ {A = ℕ} 0 1 = cc in omega arith)
+from_app (sort i) p = absurd (let z : ◌≡◌ {A = ℕ} 0 1 = cc in omega arith)
+from_app (pi a b) p = absurd (let z : ◌≡◌ {A = ℕ} 0 1 = cc in omega arith)
+from_app (lam a b) p = absurd (let z : ◌≡◌ {A = ℕ} 0 1 = cc in omega arith)
+from_app (const (h_def i)) p = absurd (let z : ◌≡◌ {A = ℕ} 0 1 = cc in omega arith)
+from_app (const (h_data i)) p = absurd (let z : ◌≡◌ {A = ℕ} 0 1 = cc in omega arith)
+from_app (const (h_con i k)) p = absurd (let z : ◌≡◌ {A = ℕ} 0 1 = cc in omega arith)
+from_app (const (h_rec i j)) p = absurd (let z : ◌≡◌ {A = ℕ} 0 1 = cc in omega arith)
+from_app (const (h_eq i)) p = absurd (let z : ◌≡◌ {A = ℕ} 0 1 = cc in omega arith)
+from_app (const (h_refl i)) p = absurd (let z : ◌≡◌ {A = ℕ} 0 1 = cc in omega arith)
+from_app (const (h_along i j)) p = absurd (let z : ◌≡◌ {A = ℕ} 0 1 = cc in omega arith)
+
+pub down_on : (ws : List ℕ) (at place count : ℕ) (s : Sign) → Holds ws at → Down ws at place count → Read ws place s → s ≡ App → Down ws at (place + 3) (count + 1)
+down_on ws at place count s h d r g =
     let b₀ = below h.term h.rest h.at in
     record { placed = omega (arith, d.placed); within = holds_within ws (place + 3) (record { term = b₀.term; rest = b₀.rest; at = b₀.at }); below = below }
   where
     below : (t : Term) (rest : List ℕ) → At ws at t rest → Below ws (place + 3) (count + 1) t
     below t rest a =
         let b = d.below t rest a in
-        app_below ws place count t b.term b.rest b.at b.counted b.head (sym (at_three ws place b.term b.rest b.at).first ∙ g)
+        let (f, x, is) = from_app b.term (sym g ∙ r b.term b.rest b.at) in
+        record {
+          term = f;
+          rest = put x b.rest;
+          at = at_function ws place f x b.rest (tr (λ z. At ws place z b.rest) is b.at);
+          counted = omega (arith, b.counted, ap uses is);
+          head = b.head ∙ ap head_term is;
+        }
 
-no_app : (s : Term) → (tag s ≡ 2 → ⊥) → (uses s ≡ 0) × (head_term s ≡ s)
-no_app (var x) g = (refl, refl)
-no_app (const h) g = (refl, refl)
-no_app (sort i) g = (refl, refl)
-no_app (pi x y) g = (refl, refl)
-no_app (lam x y) g = (refl, refl)
-no_app (app f x) g = absurd (g refl)
+pub down_holds : (ws : List ℕ) (at place count : ℕ) → Holds ws at → Down ws at place count → Holds ws place
+down_holds ws at place count h d = let b = d.below h.term h.rest h.at in record { term = b.term; rest = b.rest; at = b.at }
 
-pub down_end : (ws : List ℕ) (at place count : ℕ) → Down ws at place count → (get_or ws place 0 ≡ 2 → ⊥) → (t : Term) (rest : List ℕ) → At ws at t rest → HeadAt ws (at + 3 * count) count t
-down_end ws at place count d g t rest a =
+no_app : (t : Term) (s : Sign) → s ≡ root t → (s ≡ App → ⊥) → (uses t ≡ 0) × (head_term t ≡ t)
+no_app (var x) s p g = (refl, refl)
+no_app (const h) s p g = (refl, refl)
+no_app (sort i) s p g = (refl, refl)
+no_app (pi x y) s p g = (refl, refl)
+no_app (lam x y) s p g = (refl, refl)
+no_app (app f x) s p g = absurd (g p)
+
+pub down_end : (ws : List ℕ) (at place count : ℕ) (s : Sign) → Down ws at place count → Read ws place s → (s ≡ App → ⊥) → (t : Term) (rest : List ℕ) → At ws at t rest → HeadAt ws (at + 3 * count) count t
+down_end ws at place count s d r g t rest a =
     let b = d.below t rest a in
-    let (n, h) = no_app b.term (λ q. g ((at_three ws place b.term b.rest b.at).first ∙ q)) in
+    let (n, h) = no_app b.term s (r b.term b.rest b.at) g in
     record {
       count = omega (arith, b.counted);
       rest = b.rest;
-      at = tr (λ s. At ws (at + 3 * count) s b.rest) (sym (b.head ∙ h)) (tr (λ k. At ws k b.term b.rest) d.placed b.at);
+      at = tr (λ z. At ws (at + 3 * count) z b.rest) (sym (b.head ∙ h)) (tr (λ k. At ws k b.term b.rest) d.placed b.at);
     }
 
 -- Roots tell terms and heads.

@@ -1,5 +1,5 @@
 -- A term as a head applied to arguments.
-use Rattle.std.specs.Prelude.{◌≡◌, ℕ, zero, suc, ◌+◌, ◌-◌, ◌*◌, ◌<◌, ◌≤◌, Bool, true, false, cond, ◌&&◌, ◌⊎◌, List, length, ◌==◌, nat_eq}
+use Rattle.std.specs.Prelude.{◌≡◌, ℕ, zero, suc, ◌+◌, ◌-◌, ◌*◌, ◌<◌, ◌≤◌, Bool, true, false, cond, ◌&&◌, ◌⊎◌, List, length, ◌==◌, nat_eq, Some, None, Option as Maybe}
 use Rattle.std.proofs.Math.Option.{Option, some, none}
 use Rattle.theory.specs.Terms.{Head, Term, var, const, sort, pi, lam, app, option, size}
 use Rattle.std.proofs.Math.ListN.{get_elem?}
@@ -46,9 +46,14 @@ head_of (app f a) = none
 abbrev pub wants : Env → Term → ℕ → Bool
 wants e t n = option (head_of t) false (λ h. needs_last e h n)
 
--- It has to exactly if there are m arguments, and never if m is 0.
-pub record Wants (e : Env) (t : Term) (m : ℕ) : Type 0 where
-  pub at : (n : ℕ) → wants e t (suc n) ≡ (suc n == m)
+-- Is n the number, if there is one?
+abbrev pub is_number : Maybe ℕ → ℕ → Bool
+is_number None n = false
+is_number (Some m) n = n == m
+
+-- It has to exactly if there are so many arguments, and never if no number is given.
+pub record Wants (e : Env) (t : Term) (o : Maybe ℕ) : Type 0 where
+  pub at : (n : ℕ) → wants e t (suc n) ≡ is_number o (suc n)
 
 -- The step of a redex at its root.
 abbrev pub top_step : Env → Term → Option Term

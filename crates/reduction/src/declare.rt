@@ -9,26 +9,8 @@ ghost use Rattle.reduction.specs.Store.{put_entry, EnvAt};
 ghost use Rattle.reduction.specs.Lookup.{Declares, Declared};
 
 use terms::copy::copy_words;
+use terms::number::put_number;
 use terms::walk::end_of;
-
-// A number in two words, the low one first.
-fn push_pair(out: &mut [u32], at: usize, value: usize) -> usize
-    requires { at + 2 ≤ length out.old }
-    ensures { Appends out.old at (number value []) out.new result }
-{
-    out[at] = (value % 4294967296) as u32;
-    out[at + 1] = (value / 4294967296) as u32;
-    at + 2
-}
-
-// The mark of an entry and a number in two words.
-fn push_mark(out: &mut [u32], at: usize, mark: u32, value: usize) -> usize
-    requires { at + 3 ≤ length out.old }
-    ensures { Appends out.old at (mark ∷ number value []) out.new result }
-{
-    out[at] = mark;
-    push_pair(out, at + 1, value)
-}
 
 // A definition: the type and the body that stand at these places.
 pub fn declare_definition(
@@ -48,18 +30,15 @@ pub fn declare_definition(
 {
     let type_end = end_of(terms, type_at);
     let body_end = end_of(terms, body_at);
-    let type_len = type_end - type_at;
-    let body_len = body_end - body_at;
     if index.len() - 2 * count < 2 {
         return None;
     }
-    if store.len() - used < 3 + (type_len + body_len) {
+    if store.len() - used < 3 + ((type_end - type_at) + (body_end - body_at)) {
         return None;
     }
-    let first = push_mark(store, used, 0, type_len);
-    let second = copy_words(terms, type_at, type_end, store, first);
-    let end = copy_words(terms, body_at, body_end, store, second);
-    push_pair(index, 2 * count, used);
+    let body = copy_words(terms, type_at, type_end, store, used + 3);
+    let end = copy_words(terms, body_at, body_end, store, body);
+    enter_definition(index, count, store, used, body);
     Some(end)
 }
 
@@ -78,16 +57,14 @@ pub fn declare_axiom(
     ensures { (a : Term) (x : List ℕ) → At terms.now type_at a x → Declares index.old store.old count used index.new store.new (assumed a) (3 + 3 * size a) result }
 {
     let type_end = end_of(terms, type_at);
-    let type_len = type_end - type_at;
     if index.len() - 2 * count < 2 {
         return None;
     }
-    if store.len() - used < 3 + type_len {
+    if store.len() - used < 3 + (type_end - type_at) {
         return None;
     }
-    let first = push_mark(store, used, 1, 0);
-    let end = copy_words(terms, type_at, type_end, store, first);
-    push_pair(index, 2 * count, used);
+    let end = copy_words(terms, type_at, type_end, store, used + 3);
+    enter_axiom(index, count, store, used);
     Some(end)
 }
 
@@ -98,9 +75,8 @@ fn enter(index: &mut [u32], count: usize, store: &mut [u32], used: usize, mark: 
     ensures { (d : Entry) (new : List ℕ) → put_entry d [] ≡ mark ∷ number value new → Declared index.old store.old count used index.new store.new d new }
 {
     store[used] = mark;
-    store[used + 1] = (value % 4294967296) as u32;
-    store[used + 2] = (value / 4294967296) as u32;
-    push_pair(index, 2 * count, used);
+    put_number(store, used + 1, value);
+    put_number(index, 2 * count, used);
 }
 
 // A definition: its type stands in the store behind those three words, its body from `body_at` on.
@@ -116,8 +92,7 @@ pub fn enter_definition(
     requires order { used + 3 ≤ body_at }
     ensures { (t a : Term) → body_at ≡ used + 3 + 3 * size a → Declared index.old store.old count used index.new store.new (defined t a) (put a (put t [])) }
 {
-    let type_len = body_at - (used + 3);
-    enter(index, count, store, used, 0, type_len);
+    enter(index, count, store, used, 0, body_at - (used + 3));
 }
 
 // An axiom: its type stands in the store behind those three words.

@@ -1,48 +1,26 @@
-use Rattle.std.proofs.Common.{arith, rules}
+use Rattle.std.proofs.Common.{[], arith}
 use Rattle.theory.specs.Environment.{defined}
-use Rattle.terms.proofs.Places.{at_length}
-use Rattle.reduction.proofs.Declaring.{declared, definition_words, definition_long, copied_long}
+use Rattle.terms.specs.Words.{put}
+use Rattle.terms.proofs.Nodes.{put-length}
+use Rattle.reduction.proofs.Declaring.{end_within, copied_one, copied_two, entered_copy}
 use Rattle.reduction.proofs.declare.declare_definition.Goals as goal
-
-pub overflow_add-type_len : goal.overflow_add-type_len
-overflow_add-type_len c =
-    let h = at_length c.args.terms.now c.args.type_at c.requires.typed.term c.requires.typed.rest c.requires.typed.at in
-    let k = c.end_of-type_end.ensures c.requires.typed.term c.requires.typed.rest c.requires.typed.at in
-    let h' = at_length c.args.terms.now c.args.body_at c.requires.body.term c.requires.body.rest c.requires.body.at in
-    let k' = c.end_of-body_end.ensures c.requires.body.term c.requires.body.rest c.requires.body.at in
-    search rules
-
-pub overflow_add-type_len-2 : goal.overflow_add-type_len-2
-overflow_add-type_len-2 c =
-    let h = at_length c.args.terms.now c.args.type_at c.requires.typed.term c.requires.typed.rest c.requires.typed.at in
-    let k = c.end_of-type_end.ensures c.requires.typed.term c.requires.typed.rest c.requires.typed.at in
-    let h' = at_length c.args.terms.now c.args.body_at c.requires.body.term c.requires.body.rest c.requires.body.at in
-    let k' = c.end_of-body_end.ensures c.requires.body.term c.requires.body.rest c.requires.body.at in
-    search rules
-
-pub copy_words-second-requires : goal.copy_words-second-requires
-copy_words-second-requires c =
-    let h = at_length c.args.terms.now c.args.type_at c.requires.typed.term c.requires.typed.rest c.requires.typed.at in
-    let k = c.end_of-type_end.ensures c.requires.typed.term c.requires.typed.rest c.requires.typed.at in
-    record { order = omega arith; within = omega arith; room = omega (arith, c.push_mark-first.ensures.ends, c.push_mark-first.auto.out) }
-
-pub copy_words-end-requires : goal.copy_words-end-requires
-copy_words-end-requires c =
-    let h = at_length c.args.terms.now c.args.type_at c.requires.typed.term c.requires.typed.rest c.requires.typed.at in
-    let k = c.end_of-type_end.ensures c.requires.typed.term c.requires.typed.rest c.requires.typed.at in
-    let h' = at_length c.args.terms.now c.args.body_at c.requires.body.term c.requires.body.rest c.requires.body.at in
-    let k' = c.end_of-body_end.ensures c.requires.body.term c.requires.body.rest c.requires.body.at in
-    let m = copied_long c.args.terms.now c.args.type_at c.end_of-type_end.result (omega arith) (omega arith) in
-    record { order = omega arith; within = omega arith; room = omega (arith, c.push_mark-first.ensures.ends, c.push_mark-first.auto.out, c.copy_words-second.ensures.ends, c.copy_words-second.auto.out) }
 
 pub returns : goal.returns
 returns c = λ t a x y u v e w.
     let k = c.end_of-type_end.ensures a x u in
-    let k' = c.end_of-body_end.ensures t y v in
-    let z = definition_words c.args.store.now c.push_mark-first.new.out c.copy_words-second.new.out c.copy_words-end.new.out c.args.terms.now c.args.used
-    c.push_mark-first.result c.copy_words-second.result c.copy_words-end.result 0 a t x y c.args.type_at c.end_of-type_end.result c.args.body_at c.end_of-body_end.result
-    c.push_mark-first.ensures c.copy_words-second.ensures c.copy_words-end.ensures u v k k' in (
-      declared c.args.index.now c.args.store.now c.push_pair.new.out c.copy_words-end.new.out c.args.count c.args.used c.push_pair.result c.copy_words-end.result (defined t a)
-          c.requires.entries c.push_pair.ensures z e w,
-      omega (arith, z.ends, definition_long t a),
-    )
+    let l = c.end_of-body_end.ensures t y v in
+    let z = copied_two _ _ _ _ _ _ _ a t x y _ _ _ _ c.copy_words-body.ensures c.copy_words-end.ensures u v k l in
+    let b = copied_one _ _ _ _ _ a x _ _ c.copy_words-body.ensures u k in
+    (entered_copy _ _ _ _ _ _ _ _ (defined t a) _ (omega arith) z (c.enter_definition.ensures t a (omega (arith, b.ends, put-length a []))) e w, omega (arith, z.ends, put-length a (put t []), put-length t []))
+
+pub overflow_add-type_end : goal.overflow_add-type_end
+overflow_add-type_end c = omega (arith, end_within c.args.terms.now c.args.type_at c.end_of-type_end.result c.requires.typed c.end_of-type_end.ensures, end_within c.args.terms.now c.args.body_at c.end_of-body_end.result c.requires.body c.end_of-body_end.ensures)
+
+pub overflow_add-type_end-2 : goal.overflow_add-type_end-2
+overflow_add-type_end-2 c = omega (arith, end_within c.args.terms.now c.args.type_at c.end_of-type_end.result c.requires.typed c.end_of-type_end.ensures, end_within c.args.terms.now c.args.body_at c.end_of-body_end.result c.requires.body c.end_of-body_end.ensures)
+
+pub copy_words-body-requires-clause-within : goal.copy_words-body-requires-clause-within
+copy_words-body-requires-clause-within c = end_within c.args.terms.now c.args.type_at c.end_of-type_end.result c.requires.typed c.end_of-type_end.ensures
+
+pub copy_words-end-requires-clause-within : goal.copy_words-end-requires-clause-within
+copy_words-end-requires-clause-within c = end_within c.args.terms.now c.args.body_at c.end_of-body_end.result c.requires.body c.end_of-body_end.ensures
