@@ -9,6 +9,7 @@ use Rattle.syntax.specs.Tokens.{tokens}
 use Rattle.syntax.specs.Grammar.{Reads}
 use Rattle.syntax.specs.Headers.{nth_decl, decl_name, name_at, Declared, NoHeader, HeaderAt}
 use Rattle.syntax.specs.declared.locate.Header.{Header}
+use Rattle.judge.specs.Promise.{Standing}
 use Rattle.checker.specs.Answers.{HasDecl}
 
 -- There is an n-th name, if there are more than n declarations.
@@ -38,6 +39,6 @@ same_name w y ts (some x) p = ap some (sym p.0)
 pub header_names : (bs : List ℕ) (n : ℕ) (h : Header) → HeaderAt bs n h → (ds : List Decl) → Reads bs ds → name_at ds n ≡ some h.name.now
 header_names bs n h f ds r = same_name h.keyword.now h.name.now f.behind (name_at ds n) (tr (λ o. Declared o (name_at ds n)) f.nth (headers_right bs ds r n))
 
--- Behind n declarations there is one more.
-pub has_next : (t : List ℕ) (n : ℕ) (ds es : List Decl) (d : Decl) → Reads t (ds ++ (d ∷ es)) → n ≡ length ds → HasDecl t n
-has_next t n ds es d r e = (ds ++ (d ∷ es), r, omega (arith, e, length-append ds (d ∷ es)))
+-- Behind n declarations that check there is one more.
+pub has_standing : {t : List ℕ} {n : ℕ} {d : Decl} {gs : _} {e : _} → Standing t n d gs e → HasDecl t n
+has_standing {d = d} s = (s.done ++ (d ∷ s.rest), s.reads, omega (arith, s.count, length-append s.done (d ∷ s.rest)))

@@ -51,6 +51,10 @@ pub record SetTo (w : List ℕ) (most before r : ℕ) : Type 0 where
   pub new : IsUpTo w most → r ≡ number_in w
   pub old : (IsUpTo w most → ⊥) → r ≡ before
 
+-- What holds where no argument says otherwise.
+abbrev pub default_options : Options
+default_options = record { steps = 1000000; words = 1037311; list = false; files = 0 }
+
 -- What an argument changes: the steps, the words, whether there is a list, how many files are named.
 pub record Changes (steps : ℕ → ℕ → Type 0) (words : ℕ → ℕ → Type 0) (listed : Bool) (more : ℕ) (o r : Options) : Type 0 where
   pub steps_are : steps o.steps r.steps

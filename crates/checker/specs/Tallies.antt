@@ -1,5 +1,6 @@
 -- Counting what came of texts.
-use Rattle.std.specs.Prelude.{ℕ, ◌+◌, ◌-◌, ◌^◌, min, Bool, true, ◌&&◌, List, [], ◌∷◌, ◌++◌, take, codes, decimal, ◌==◌, slice_index, slice_set}
+use Rattle.std.specs.Prelude.{ℕ, ◌+◌, ◌-◌, ◌^◌, min, Bool, List, ◌++◌, take, fold, codes, decimal, ◌==◌, slice_index, slice_set}
+use Rattle.std.specs.List.{list_all}
 use Rattle.checker.specs.declared.answer.Said.{Said}
 use Rattle.checker.specs.declared.answer.Said.TheVariants as said
 use Rattle.checker.specs.declared.answer.Reason.{Reason}
@@ -38,8 +39,7 @@ abbrev pub add_up : ℕ → ℕ → ℕ
 add_up m n = min (m + n) (2 ^ 64 - 1)
 
 abbrev pub sum_from : ℕ → List ℕ → ℕ
-sum_from m [] = m
-sum_from m (n ∷ ns) = sum_from (add_up m n) ns
+sum_from m ns = fold add_up m ns
 
 -- The counts with one more of an outcome.
 abbrev pub counted : Outcome → List ℕ → List ℕ
@@ -47,8 +47,7 @@ counted o cs = slice_set cs (rank_of o) (add_up (slice_index cs (rank_of o)) 1)
 
 -- Is each number 0?
 abbrev pub all_zero : List ℕ → Bool
-all_zero [] = true
-all_zero (n ∷ ns) = n == 0 && all_zero ns
+all_zero ns = list_all (λ n. n == 0) ns
 
 -- The summary: how many texts there are, and then each count.
 abbrev pub summary_of : ℕ → List ℕ → List ℕ

@@ -1,5 +1,5 @@
 // What is said of a text.
-ghost use Rattle.std.specs.Prelude.{◌≡◌, ℕ, ◌+◌, ◌-◌, ◌*◌, ◌≤◌, ◌⊎◌, length, codes, IsUtf8};
+ghost use Rattle.std.specs.Prelude.{◌≡◌, ℕ, ◌+◌, ◌-◌, ◌*◌, ◌≤◌, ◌⊎◌, length, codes, IsUtf8, Some};
 ghost use Rattle.judge.specs.Promise.{CheckedPost};
 ghost use Rattle.judge.specs.declared.Checked.{Checked};
 ghost use Rattle.syntax.specs.Headers.{TokenAt};
@@ -7,13 +7,14 @@ ghost use Rattle.syntax.specs.Lines.{line_of};
 ghost use Rattle.checker.specs.Answers.{HasDecl, Unreadable, StopsAt, Says, reason_text};
 
 use judge::{Checked, check};
+use std::fmt;
 use std::str::from_utf8;
 use syntax::locate::{find_header, line_at, token_at};
 use syntax::parse::parse;
 use syntax::problem::{Problem, Stop};
 
 // Why not all declarations hold.
-#[derive(Clone, Copy)]
+#[derive(Clone, Copy, Debug, PartialEq, Eq)]
 pub enum Reason {
     Refused,
     Open,
@@ -22,7 +23,7 @@ pub enum Reason {
 }
 
 // Where the declaration stands that was judged last: its line, keyword and name.
-#[derive(Clone, Copy)]
+#[derive(Clone, Copy, Debug, PartialEq, Eq)]
 pub struct Place<'a> {
     pub line: usize,
     pub keyword: &'a str,
@@ -30,14 +31,14 @@ pub struct Place<'a> {
 }
 
 // Where a text stopped being one, and why.
-#[derive(Clone, Copy)]
+#[derive(Clone, Copy, Debug, PartialEq, Eq)]
 pub struct Fault {
     pub line: usize,
     pub what: &'static str,
 }
 
 // What is said of a text.
-#[derive(Clone, Copy)]
+#[derive(Clone, Copy, Debug, PartialEq, Eq)]
 pub enum Said<'a> {
     All(usize),
     Stopped(Reason, usize, Place<'a>),
@@ -46,17 +47,16 @@ pub enum Said<'a> {
     Few(usize, usize),
 }
 
-impl Reason {
-    // The reason in words.
-    pub fn text(self) -> &'static str
-        ensures { result.now ≡ reason_text self }
-    {
-        match self {
+impl fmt::Display for Reason {
+    ghost output = { λ r. Some (reason_text r) };
+
+    fn fmt<W: fmt::Write>(&self, f: &mut fmt::Formatter<W>) -> fmt::Result {
+        f.write_str(match self {
             Reason::Refused => "refused",
             Reason::Open => "open",
             Reason::Spent => "spent",
             Reason::NoRoom => "no room",
-        }
+        })
     }
 }
 
@@ -73,10 +73,7 @@ pub fn as_text(bytes: &[u8]) -> &str
     ensures text { IsUtf8 bytes.now → result.now ≡ bytes.now }
     ensures other { (IsUtf8 bytes.now → ⊥) → result.now ≡ codes "?" }
 {
-    match from_utf8(bytes) {
-        Ok(text) => text,
-        Err(_) => "?",
-    }
+    from_utf8(bytes).unwrap_or("?")
 }
 
 // Judging stopped at the declaration behind `after` others.

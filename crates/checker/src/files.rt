@@ -4,12 +4,18 @@ ghost use Rattle.std.specs.Prelude.{◌≤◌, length, IfOk};
 use crate::answer::judge_text;
 use crate::report::Line;
 use crate::tally::Outcome;
+use std::fmt::Display;
 use std::fs::File;
 use std::io;
 use std::io::{ErrorKind, Read};
 
-// Says on standard error what is wrong with what is named.
-pub fn complain(rt: &HostRuntime, name: &[u8], what: &str) -> io::Result<()> {
+// Says on standard error what is wrong.
+pub fn complain<D: Display + Drop>(rt: &HostRuntime, what: D) -> io::Result<()> {
+    eprintln!(rt; "check: {what}")
+}
+
+// Says on standard error what is wrong with what is named; the name need not be text.
+pub fn complain_of<D: Display + Drop>(rt: &HostRuntime, name: &[u8], what: D) -> io::Result<()> {
     let stderr = rt.stderr();
     stderr.print("check: ")?;
     Print::write_all(&stderr, name)?;
@@ -28,11 +34,8 @@ fn fill<R: Read>(source: &mut R, buf: &mut [u8]) -> io::Result<usize>
         match source.read(&mut buf[at..]) {
             Ok(0) => break,
             Ok(n) => at += n,
-            Err(e) => {
-                if e.kind() != ErrorKind::Interrupted {
-                    return Err(e);
-                }
-            }
+            Err(e) if e.kind() == ErrorKind::Interrupted => {}
+            Err(e) => return Err(e),
         }
     }
     Ok(at)
@@ -63,13 +66,13 @@ pub fn judge_file(
 {
     match read_text(rt, name, text) {
         Ok(len) => {
-            let said = judge_text(&text[0..len], steps, work);
+            let said = judge_text(&text[..len], steps, work);
             let line = Line { name, said };
             println!(rt; "{line}")?;
-            Ok(Outcome::of(said))
+            Ok(Outcome::from(said))
         }
         Err(e) => {
-            eprintln!(rt; "check: {name}: {e}")?;
+            complain_of(rt, name.as_bytes(), e)?;
             Ok(Outcome::Unread)
         }
     }

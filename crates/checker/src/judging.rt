@@ -5,25 +5,26 @@ ghost use Rattle.checker.specs.Tallies.{add_up, counted};
 ghost use Rattle.checker.specs.declared.tally.Outcome.{Outcome};
 ghost use Rattle.checker.specs.declared.tally.Outcome.TheVariants.{Unread};
 
-use crate::files::{complain, judge_file};
+use crate::files::{complain, complain_of, judge_file};
 use crate::names::Name;
-use crate::options::{MOST_WORDS, NAME_BYTES, Options, Role, TEXT_BYTES, number};
+use crate::options::{MOST_WORDS, NAME_BYTES, Options, Role, TEXT_BYTES, each_argument, number};
 use crate::tally::{Outcome, Tally};
 use std::alloc::{AllocError, Global};
-use std::env::FillError;
 use std::fmt::Display;
 use std::io;
 use std::io::{ErrorKind, Read};
-use std::rt::Env;
 use std::str::from_utf8;
+
+// A name is given up where it is not text.
+const NOT_UTF8: &str = "the name is not UTF-8";
 
 // The buffers, and what came of the texts so far.
 #[derive(Drop)]
 pub struct Judging {
-    options: Options,
+    pub options: Options,
+    pub work: Vec<u32>,
+    pub tally: Tally,
     text: [u8; TEXT_BYTES],
-    work: Vec<u32>,
-    tally: Tally,
 }
 
 impl Judging {
@@ -34,17 +35,10 @@ impl Judging {
         let work = vec![in heap; 0; options.words as usize]?;
         Ok(Judging {
             options,
-            text: [0; TEXT_BYTES],
             work,
             tally: Tally::new(),
+            text: [0; TEXT_BYTES],
         })
-    }
-
-    // What came of the texts.
-    pub fn tally(&self) -> Tally
-        ensures { result ≡ self.now.tally }
-    {
-        self.tally
     }
 
     // An option is wrong.
@@ -52,15 +46,20 @@ impl Judging {
         ensures { self.new.tally.faults ≡ add_up self.old.tally.faults 1 }
     {
         self.tally.count_fault();
-        eprintln!(rt; "check: {word}: {what}")
+        complain_of(rt, word.as_bytes(), what)
     }
 
     // A text cannot be read.
-    fn unread(&mut self, rt: &HostRuntime, name: &[u8], what: &str) -> io::Result<()>
+    fn unread<D: Display + Drop>(
+        &mut self,
+        rt: &HostRuntime,
+        name: &[u8],
+        what: D,
+    ) -> io::Result<()>
         ensures { self.new.tally.counts ≡ counted Unread self.old.tally.counts }
     {
         self.tally.count(Outcome::Unread);
-        complain(rt, name, what)
+        complain_of(rt, name, what)
     }
 
     // Judges a text by its name.
@@ -83,19 +82,12 @@ impl Judging {
     {
         let role = Role::of(before, word);
         match role {
-            Role::StepsNumber => {
-                if number(word, u64::MAX).is_none() {
-                    self.fault(rt, word, "not a number of steps")?;
-                }
+            Role::StepsNumber if number(word, u64::MAX).is_none() => {
+                self.fault(rt, word, "not a number of steps")?;
             }
-            Role::WordsNumber => {
-                if number(word, MOST_WORDS).is_none() {
-                    self.fault(
-                        rt,
-                        word,
-                        format_args!("not a number of words up to {MOST_WORDS}"),
-                    )?;
-                }
+            Role::WordsNumber if number(word, MOST_WORDS).is_none() => {
+                let what = format_args!("not a number of words up to {MOST_WORDS}");
+                self.fault(rt, word, what)?;
             }
             Role::Unknown => self.fault(rt, word, "unknown option")?,
             Role::File => self.named(rt, word)?,
@@ -108,35 +100,30 @@ impl Judging {
     fn argument_bytes(&mut self, rt: &HostRuntime, before: Role, bytes: &[u8]) -> io::Result<Role>
         ensures { IfOk result (λ o. (IsUtf8 bytes.now → o ≡ role_of before bytes.now)) }
     {
-        match from_utf8(bytes) {
-            Ok(word) => {
-                let role = self.argument(rt, before, word)?;
-                Ok(role)
-            }
-            Err(_) => {
-                self.unread(rt, bytes, "the name is not UTF-8")?;
-                Ok(Role::File)
-            }
-        }
+        let Ok(word) = from_utf8(bytes) else {
+            self.unread(rt, bytes, NOT_UTF8)?;
+            return Ok(Role::File);
+        };
+        self.argument(rt, before, word)
     }
 
     // Judges the texts that the arguments name.
     pub fn arguments(&mut self, rt: &HostRuntime) -> io::Result<()> {
         let mut before = Role::File;
-        let mut buf = [0u8; NAME_BYTES];
-        for i in 1..usize::MAX {
-            match rt.arg(i, &mut buf) {
-                Ok(n) => before = self.argument_bytes(rt, before, &buf[0..n])?,
-                Err(FillError::TooLong) => {
+        each_argument(rt, |i, bytes| -> io::Result<()> {
+            before = match bytes {
+                Some(bytes) => self.argument_bytes(rt, before, bytes)?,
+                None => {
                     self.tally.count(Outcome::Unread);
-                    eprintln!(rt;
-                        "check: argument {i}: the name is longer than {NAME_BYTES} bytes"
-                    )?;
-                    before = Role::File;
+                    let what = format_args!(
+                        "argument {i}: the name is longer than {NAME_BYTES} bytes"
+                    );
+                    complain(rt, what)?;
+                    Role::File
                 }
-                Err(FillError::NotPresent) => break,
-            }
-        }
+            };
+            Ok(())
+        })?;
         match before {
             Role::Steps => self.fault(rt, "--steps", "a number is missing"),
             Role::Words => self.fault(rt, "--words", "a number is missing"),
@@ -148,12 +135,13 @@ impl Judging {
     fn line(&mut self, rt: &HostRuntime, name: &Name) -> io::Result<()> {
         let bytes = name.bytes();
         if name.is_long() {
-            return self.unread(rt, bytes, "the name is longer than these 4096 bytes");
+            let what = format_args!("the name is longer than these {NAME_BYTES} bytes");
+            return self.unread(rt, bytes, what);
         }
         match from_utf8(bytes) {
             Ok("") => Ok(()),
             Ok(word) => self.named(rt, word),
-            Err(_) => self.unread(rt, bytes, "the name is not UTF-8"),
+            Err(_) => self.unread(rt, bytes, NOT_UTF8),
         }
     }
 
@@ -178,13 +166,9 @@ impl Judging {
         for _ in 0..u64::MAX {
             match stdin.read(&mut buf) {
                 Ok(0) => break,
-                Ok(n) => self.lines(rt, &mut name, &buf[0..n])?,
-                Err(e) => {
-                    if e.kind() != ErrorKind::Interrupted {
-                        self.tally.count(Outcome::Unread);
-                        return eprintln!(rt; "check: -: {e}");
-                    }
-                }
+                Ok(n) => self.lines(rt, &mut name, &buf[..n])?,
+                Err(e) if e.kind() == ErrorKind::Interrupted => {}
+                Err(e) => return self.unread(rt, b"-", e),
             }
         }
         self.line(rt, &name)

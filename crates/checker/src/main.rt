@@ -21,7 +21,7 @@ fn main(rt: HostRuntime) -> ExitCode {
         Ok(true) => ExitCode::SUCCESS,
         Ok(false) => ExitCode::FAILURE,
         Err(e) => {
-            let _ = eprintln!(rt; "check: {e}");
+            let _ = files::complain(&rt, e);
             ExitCode::FAILURE
         }
     }
@@ -48,10 +48,10 @@ fn judge_all(rt: &HostRuntime, options: Options) -> io::Result<bool> {
     judging.arguments(rt)?;
     if options.list {
         judging.listed(rt)?;
-    } else if options.files == 0 && !judging.tally().faulty() {
+    } else if options.files == 0 && !judging.tally.faulty() {
         judging.named(rt, "-")?;
     }
-    let tally = judging.tally();
+    let tally = judging.tally;
     if tally.several() {
         eprintln!(rt; "{tally}")?;
     }

@@ -1,67 +1,65 @@
 // A name that is read byte by byte, and kept in a buffer of one size.
-ghost use Rattle.std.specs.Prelude.{◌≡◌, ◌<◌, ◌≤◌, true, false, [], ◌∷◌, ◌++◌, take};
+ghost use Rattle.std.specs.Prelude.{◌≡◌, [], ◌∷◌, ◌++◌, take, length, nat_lt};
 
 use crate::options::NAME_BYTES;
+use arrayvec::ArrayVec;
+use std::marker::Model;
 
-// The bytes so far, and whether there were more than fit.
+// One byte more than is kept of a name tells that there were more.
+const FULL_BYTES: usize = NAME_BYTES + 1;
+
+// The bytes so far, and at most one more than are kept.
 #[derive(Drop)]
 pub struct Name {
-    buf: [u8; NAME_BYTES],
-    len: usize,
-    long: bool,
-    ghost within: { len ≤ 4096 },
+    bytes: ArrayVec<u8, FULL_BYTES>,
+}
+
+impl Model for Name {
+    ghost use Rattle.std.specs.Prelude.{ℕ, List};
+
+    ghost Value = { List ℕ };
+
+    ghost view = { λ n. n.bytes.items };
 }
 
 impl Name {
     // No byte yet.
     pub fn new() -> Name
-        ensures empty { result.len ≡ 0 }
-        ensures whole { result.long ≡ false }
+        ensures { result ≡ [] }
     {
         Name {
-            buf: [0; NAME_BYTES],
-            len: 0,
-            long: false,
+            bytes: ArrayVec::new(),
         }
     }
 
     // One more byte, if there is room.
     pub fn push(&mut self, b: u8)
-        ensures kept { self.old.len < 4096 → take self.new.len self.new.buf ≡ take self.old.len self.old.buf ++ (b ∷ []) }
-        ensures whole { self.old.len < 4096 → self.new.long ≡ self.old.long }
-        ensures full { 4096 ≤ self.old.len → take self.new.len self.new.buf ≡ take self.old.len self.old.buf }
-        ensures long { 4096 ≤ self.old.len → self.new.long ≡ true }
+        ensures { self.new ≡ take 4097 (self.old ++ b ∷ []) }
     {
-        if self.len < NAME_BYTES {
-            self.buf[self.len] = b;
-            self.len += 1;
-        } else {
-            self.long = true;
+        if !self.bytes.is_full() {
+            self.bytes.push(b);
         }
     }
 
     // No byte again.
     pub fn clear(&mut self)
-        ensures empty { self.new.len ≡ 0 }
-        ensures whole { self.new.long ≡ false }
+        ensures { self.new ≡ [] }
     {
-        self.len = 0;
-        self.long = false;
+        self.bytes.clear();
     }
 
     // Was there more than there is room for?
     pub fn is_long(&self) -> bool
-        ensures { result ≡ self.now.long }
+        ensures { result ≡ nat_lt 4096 (length self.now) }
     {
-        self.long
+        self.bytes.len() > NAME_BYTES
     }
 
     // The bytes that are kept.
     pub fn bytes(&self) -> &[u8]
-        ensures { result.now ≡ take self.now.len self.now.buf }
+        ensures { result.now ≡ take 4096 self.now }
     {
-        let len = self.len;
-        let all = &self.buf[..];
-        &all[0..len]
+        let all = self.bytes.as_slice();
+        &all[..NAME_BYTES.min(all.len())]
     }
 }

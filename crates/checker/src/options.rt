@@ -1,6 +1,6 @@
 // The arguments: what they ask for.
 ghost use Rattle.std.specs.Prelude.{◌≡◌};
-ghost use Rattle.checker.specs.Arguments.{dashed, word_role, role_of, ReadsUpTo, SetTo, Sets};
+ghost use Rattle.checker.specs.Arguments.{word_role, role_of, ReadsUpTo, SetTo, default_options, Sets};
 
 use crate::answer::as_text;
 use std::env::FillError;
@@ -29,14 +29,14 @@ pub const NAME_BYTES: usize = 4096;
 // A text has at most 32,768 bytes; one byte more tells that it is longer.
 pub const TEXT_BYTES: usize = 32769;
 
-// What is read ahead of a list of names.
-const LIST_BYTES: usize = 8192;
+// What is read ahead of a list of names, and a name; one byte more tells that it is longer.
+const LIST_BYTES: usize = 2 * NAME_BYTES + 1;
 
 // The words that fit in 4 MiB beside these.
 pub const MOST_WORDS: u64 = (4 * 1024 * 1024 - TEXT_BYTES - NAME_BYTES - LIST_BYTES) as u64 / 4;
 
 // How to judge.
-#[derive(Clone, Copy)]
+#[derive(Clone, Copy, Debug, PartialEq, Eq)]
 pub struct Options {
     // The steps and words that are allowed.
     pub steps: u64,
@@ -48,7 +48,7 @@ pub struct Options {
 }
 
 // What the arguments ask for.
-#[derive(Clone, Copy)]
+#[derive(Clone, Copy, Debug, PartialEq, Eq)]
 pub enum Asked {
     Help,
     Version,
@@ -56,7 +56,7 @@ pub enum Asked {
 }
 
 // What an argument is.
-#[derive(Clone, Copy)]
+#[derive(Clone, Copy, Debug, PartialEq, Eq)]
 pub enum Role {
     Steps,
     Words,
@@ -67,16 +67,6 @@ pub enum Role {
     Version,
     Unknown,
     File,
-}
-
-// Does the word begin with a dash?
-fn is_dashed(word: &[u8]) -> bool
-    ensures { result ≡ dashed word.now }
-{
-    match word {
-        [b'-', ..] => true,
-        _ => false,
-    }
 }
 
 impl Role {
@@ -102,11 +92,8 @@ impl Role {
             "--help" => Role::Help,
             "--version" => Role::Version,
             "-" => Role::File,
-            _ => if is_dashed(word.as_bytes()) {
-                Role::Unknown
-            } else {
-                Role::File
-            },
+            _ if word.starts_with('-') => Role::Unknown,
+            _ => Role::File,
         }
     }
 }
@@ -115,70 +102,90 @@ impl Role {
 pub fn number(word: &str, most: u64) -> Option<u64>
     ensures { ReadsUpTo word.now most result }
 {
-    match word.parse::<u64>() {
-        Ok(n) => if n <= most { Some(n) } else { None },
-        Err(_) => None,
-    }
+    word.parse().ok().filter(|n| *n <= most)
 }
 
 // The number that a word writes, if it is at most `most`, and else `before`.
 fn setting(word: &str, most: u64, before: u64) -> u64
     ensures { SetTo word.now most before result }
 {
-    match number(word, most) {
-        Some(n) => n,
-        None => before,
+    number(word, most).unwrap_or(before)
+}
+
+// What holds where no argument says otherwise.
+impl Default for Options {
+    ghost is_default = { λ o. o ≡ default_options };
+
+    fn default() -> Options {
+        Options {
+            steps: 1_000_000,
+            words: MOST_WORDS,
+            list: false,
+            files: 0,
+        }
     }
 }
 
-// The options with an argument taken in.
-fn with(options: Options, role: Role, word: &str) -> Options
-    ensures { Sets role word.now options result }
-{
-    match role {
-        Role::StepsNumber => Options {
-            steps: setting(word, u64::MAX, options.steps),
-            ..options
-        },
-        Role::WordsNumber => Options {
-            words: setting(word, MOST_WORDS, options.words),
-            ..options
-        },
-        Role::List => Options {
-            list: true,
-            ..options
-        },
-        Role::File => Options {
-            files: options.files.saturating_add(1),
-            ..options
-        },
-        _ => options,
+impl Options {
+    // The options with an argument taken in.
+    fn with(self, role: Role, word: &str) -> Options
+        ensures { Sets role word.now self result }
+    {
+        match role {
+            Role::StepsNumber => Options {
+                steps: setting(word, u64::MAX, self.steps),
+                ..self
+            },
+            Role::WordsNumber => Options {
+                words: setting(word, MOST_WORDS, self.words),
+                ..self
+            },
+            Role::List => Options { list: true, ..self },
+            Role::File => Options {
+                files: self.files.saturating_add(1),
+                ..self
+            },
+            _ => self,
+        }
     }
+}
+
+// Does this with each argument behind the program's name in turn, until it fails: with its number, and its bytes if they fit.
+pub fn each_argument<E, F: FnMut(usize, Option<&[u8]>) -> Result<(), E>>(
+    env: &impl Env,
+    mut visit: F,
+) -> Result<(), E>
+    requires { F.IsAlwaysCallable visit }
+{
+    let mut buf = [0u8; NAME_BYTES];
+    for i in 1..usize::MAX {
+        match env.arg(i, &mut buf) {
+            Ok(len) => visit(i, Some(&buf[..len]))?,
+            Err(FillError::TooLong) => visit(i, None)?,
+            Err(FillError::NotPresent) => break,
+        }
+    }
+    Ok(())
 }
 
 // What all the arguments ask for.
 pub fn read_arguments(env: &impl Env) -> Asked {
-    let mut options = Options {
-        steps: 1_000_000,
-        words: MOST_WORDS,
-        list: false,
-        files: 0,
-    };
+    let mut options = Options::default();
     let mut before = Role::File;
-    let mut buf = [0u8; NAME_BYTES];
-    for i in 1..usize::MAX {
-        let len = match env.arg(i, &mut buf) {
-            Ok(len) => len,
-            Err(FillError::TooLong) => 0,
-            Err(FillError::NotPresent) => break,
-        };
-        let word = as_text(&buf[0..len]);
+    let read = each_argument(env, |_, bytes| {
+        let word = bytes.map_or("", as_text);
         before = Role::of(before, word);
         match before {
-            Role::Help => return Asked::Help,
-            Role::Version => return Asked::Version,
-            _ => options = with(options, before, word),
+            Role::Help => Err(Asked::Help),
+            Role::Version => Err(Asked::Version),
+            _ => {
+                options = options.with(before, word);
+                Ok(())
+            }
         }
+    });
+    match read {
+        Ok(()) => Asked::Judge(options),
+        Err(asked) => asked,
     }
-    Asked::Judge(options)
 }

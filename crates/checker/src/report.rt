@@ -2,11 +2,11 @@
 ghost use Rattle.std.specs.Prelude.{Some};
 ghost use Rattle.checker.specs.Reports.{line_text};
 
-use crate::answer::Said;
+use crate::answer::{Fault, Place, Said};
 use std::fmt;
 
 // A text's name, and what is said of it.
-#[derive(Clone, Copy)]
+#[derive(Clone, Copy, Debug, PartialEq, Eq)]
 pub struct Line<'n, 't> {
     pub name: &'n str,
     pub said: Said<'t>,
@@ -19,28 +19,24 @@ impl<'n, 't> fmt::Display for Line<'n, 't> {
         let name = self.name;
         match self.said {
             Said::All(n) => write!(f, "{name}: all {n}"),
-            Said::Stopped(reason, after, place) => {
-                let line = place.line;
-                let reason = reason.text();
-                let keyword = place.keyword;
-                let declared = place.name;
-                write!(
-                    f,
-                    "{name}:{line}: {reason} after {after}: {keyword} {declared}"
-                )
-            }
+            Said::Stopped(
+                reason,
+                after,
+                Place {
+                    line,
+                    keyword,
+                    name: declared,
+                },
+            ) => write!(
+                f,
+                "{name}:{line}: {reason} after {after}: {keyword} {declared}"
+            ),
             Said::NotYet(stage) => write!(f, "{name}: not yet: stage {stage}"),
-            Said::NoText(fault) => {
-                let line = fault.line;
-                let what = fault.what;
-                write!(f, "{name}:{line}: no text: {what}")
-            }
-            Said::Few(words, least) => {
-                write!(
-                    f,
-                    "{name}: few: {words} words are too few for this text, at least {least} are needed"
-                )
-            }
+            Said::NoText(Fault { line, what }) => write!(f, "{name}:{line}: no text: {what}"),
+            Said::Few(words, least) => write!(
+                f,
+                "{name}: few: {words} words are too few for this text, at least {least} are needed"
+            ),
         }
     }
 }

@@ -1,12 +1,12 @@
 // How many texts came to what.
 ghost use Rattle.std.specs.Prelude.{◌≡◌, ◌<◌, ◌&&◌, take, drop, replicate, Some, ◌==◌, nat_lt};
-ghost use Rattle.checker.specs.Tallies.{outcome_of, rank_of, add_up, counted, sum_from, all_zero, summary};
+ghost use Rattle.checker.specs.Tallies.{outcome_of, stop_outcome, rank_of, add_up, counted, sum_from, all_zero, summary};
 
 use crate::answer::{Reason, Said};
 use std::fmt;
 
 // What came of a text that was named.
-#[derive(Clone, Copy)]
+#[derive(Clone, Copy, Debug, PartialEq, Eq)]
 pub enum Outcome {
     All,
     Refused,
@@ -19,40 +19,31 @@ pub enum Outcome {
     Unread,
 }
 
-impl Outcome {
-    // What came of a text of which this was said.
-    pub fn of(said: Said<'_>) -> Outcome
-        ensures { result ≡ outcome_of said.entry }
-    {
+// What came of a text where judging stopped for this reason.
+impl From<Reason> for Outcome {
+    ghost from_gives = { λ reason o. o ≡ stop_outcome reason };
+
+    fn from(reason: Reason) -> Outcome {
+        match reason {
+            Reason::Refused => Outcome::Refused,
+            Reason::Open => Outcome::Open,
+            Reason::Spent => Outcome::Spent,
+            Reason::NoRoom => Outcome::NoRoom,
+        }
+    }
+}
+
+// What came of a text of which this was said.
+impl<'a> From<Said<'a>> for Outcome {
+    ghost from_gives = { λ said o. o ≡ outcome_of said };
+
+    fn from(said: Said<'a>) -> Outcome {
         match said {
             Said::All(_) => Outcome::All,
-            Said::Stopped(reason, _, _) => match reason {
-                Reason::Refused => Outcome::Refused,
-                Reason::Open => Outcome::Open,
-                Reason::Spent => Outcome::Spent,
-                Reason::NoRoom => Outcome::NoRoom,
-            },
+            Said::Stopped(reason, _, _) => Outcome::from(reason),
             Said::NotYet(_) => Outcome::NotYet,
             Said::NoText(_) => Outcome::NoText,
             Said::Few(_, _) => Outcome::Few,
-        }
-    }
-
-    // Its place among the counts.
-    fn rank(self) -> usize
-        ensures is { result ≡ rank_of self }
-        ensures small { result < 9 }
-    {
-        match self {
-            Outcome::All => 0,
-            Outcome::Refused => 1,
-            Outcome::Open => 2,
-            Outcome::Spent => 3,
-            Outcome::NoRoom => 4,
-            Outcome::NotYet => 5,
-            Outcome::NoText => 6,
-            Outcome::Few => 7,
-            Outcome::Unread => 8,
         }
     }
 }
@@ -61,30 +52,21 @@ impl Outcome {
 fn sum_of(counts: &[u64]) -> u64
     ensures { result ≡ sum_from 0 counts.now }
 {
-    let mut sum: u64 = 0;
-    for n in counts {
-        sum = sum.saturating_add(*n);
-    }
-    sum
+    counts.iter().fold(0, |sum, n| sum.saturating_add(*n))
 }
 
 // Is each count 0?
 fn are_zero(counts: &[u64]) -> bool
     ensures { result ≡ all_zero counts.now }
 {
-    for n in counts {
-        if *n > 0 {
-            return false;
-        }
-    }
-    true
+    counts.iter().all(|n| *n == 0)
 }
 
 // How often each outcome came, and how many options were wrong.
-#[derive(Clone, Copy)]
+#[derive(Clone, Copy, Debug, PartialEq, Eq)]
 pub struct Tally {
-    counts: [u64; 9],
-    faults: u64,
+    pub counts: [u64; 9],
+    pub faults: u64,
 }
 
 impl Tally {
@@ -104,8 +86,8 @@ impl Tally {
         ensures counts { self.new.counts ≡ counted outcome self.old.counts }
         ensures faults { self.new.faults ≡ self.old.faults }
     {
-        let i = outcome.rank();
-        self.counts[i] = self.counts[i].saturating_add(1);
+        let n = &mut self.counts[outcome as usize];
+        *n = n.saturating_add(1);
     }
 
     // One more option is wrong.
@@ -127,7 +109,7 @@ impl Tally {
     fn texts(&self) -> u64
         ensures { result ≡ sum_from 0 (take 8 self.now.counts) }
     {
-        sum_of(&self.counts[0..8])
+        sum_of(&self.counts[..8])
     }
 
     // Were several texts named?
@@ -141,7 +123,7 @@ impl Tally {
     pub fn all_hold(&self) -> bool
         ensures { result ≡ (all_zero (take 8 (drop 1 self.now.counts)) && self.now.faults == 0) }
     {
-        are_zero(&self.counts[1..9]) && self.faults == 0
+        are_zero(&self.counts[1..]) && self.faults == 0
     }
 }
 

@@ -1,6 +1,6 @@
 -- The state of the walk, from node to node.
-use Rattle.std.proofs.Common.{◌≡◌, ℕ, suc, ◌+◌, ◌*◌, ◌≤◌, Bool, true, false, ◌&&◌, List, [], ◌∷◌, ◌++◌, length, drop, Some, None, sym, refl, ap, ◌∙◌, subst as tr, append_assoc, append-nil, arith, length-append}
-use Rattle.std.proofs.lemmas.List.{drop-drop}
+use Rattle.std.proofs.Common.{◌≡◌, ℕ, suc, ◌+◌, ◌-◌, ◌*◌, ◌≤◌, Bool, true, false, ◌&&◌, List, [], ◌∷◌, ◌++◌, length, take, drop, Some, None, Err, Option, Result, sym, refl, ap, ◌∙◌, subst as tr, append_assoc, append-nil, arith, length-append, length-drop}
+use Rattle.std.proofs.lemmas.List.{drop-drop, take_all}
 use Rattle.theory.specs.Terms.{Term}
 use Rattle.theory.proofs.Options.{true-false}
 use Rattle.terms.specs.Words.{put, puts, has_parts, sign_words}
@@ -12,6 +12,8 @@ use Rattle.terms.proofs.Rewriting.{append_start}
 use Rattle.syntax.specs.Surface.{Name, Expr}
 use Rattle.syntax.specs.Tree.{put_expr}
 use Rattle.elaboration.specs.Elaboration.{Global, Elab}
+use Rattle.std.specs.Option.{ok_or}
+use Rattle.resolver.specs.declared.walk.Nowhere.{Nowhere}
 use Rattle.resolver.specs.Resolving.{basic, nodes, resolves, resolved}
 use Rattle.resolver.specs.Names.{Named, ScopeAt}
 use Rattle.resolver.specs.Nodes.{node_sign_lem, put_exprs, PlainAt, Plain, Known, PartsAt}
@@ -61,6 +63,13 @@ doing_start tree p table stack top out start gs ys e rest s = record {
   fits = tt;
 }
 
+-- The place that an error names.
+pub err_place : {A : Type 0} {o : Option A} {n : Nowhere} {p : ℕ} → Err n ≡ ok_or o (record { 0 = p }) → o ≡ None → n.0 ≡ p
+err_place {A} {o} {n} {p} e z =
+    let r : Nowhere = record { 0 = p } in
+    let h : ◌≡◌ {A = Result A Nowhere} (Err n) (Err r) = e ∙ ap (λ (q : Option A). ok_or q r) z in
+    let i : n ≡ r = cc in ap (λ (x : Nowhere). x.0) i
+
 -- The words below all frames.
 twice : (fs : List Frame) → 2 * suc (length fs) ≡ suc (suc (2 * length fs))
 twice fs = omega arith
@@ -79,10 +88,10 @@ module _ {tree : List ℕ} {p : ℕ} {table stack₀ : List ℕ} {top : ℕ} {ou
   pub doing_plain : Plain tree place
   doing_plain = record { expr = d.expr; rest = _; at = doing_at }
 
-  pub doing_scope : ScopeAt tree (drop free stack) (scope_of ys d.frames)
-  doing_scope = tr (λ (z : List ℕ). ScopeAt tree z (scope_of ys d.frames)) (sym d.framed.words) (frames_scope d.frames s.scope d.named)
+  pub doing_scope : ScopeAt tree (take (length stack - free) (drop free stack)) (scope_of ys d.frames)
+  doing_scope = tr (λ (z : List ℕ). ScopeAt tree z (scope_of ys d.frames)) (sym (take_all (length stack - free) (drop free stack) (omega (arith, length-drop free stack)) ∙ d.framed.words)) (frames_scope d.frames s.scope d.named)
 
-  pub doing_known : Known tree table (drop free stack)
+  pub doing_known : Known tree table (take (length stack - free) (drop free stack))
   doing_known = record { globals = record { globals = gs; at = s.globals }; scope = record { names = _; at = doing_scope } }
 
   pub doing_framed : length stack ≡ length stack₀ → Framed stack free top

@@ -1,7 +1,9 @@
 -- Names at places of the tree, the bound ones passed one by one, the rows of the table passed one by one.
-use Rattle.std.proofs.Common.{◌≡◌, ℕ, suc, ◌+◌, ◌-◌, ◌<◌, ◌≤◌, true, false, List, [], ◌∷◌, length, get_or, take, drop, Some, None, Option, sym, refl, ap, ◌∙◌, subst as tr, arith, length-append, length-drop}
+use Rattle.std.proofs.Common.{◌≡◌, ℕ, suc, ◌+◌, ◌*◌, ◌-◌, ◌<◌, ◌≤◌, Bool, true, false, ◌&&◌, eqb, nat_eq, List, [], ◌∷◌, ◌++◌, length, get_or, take, drop, Some, None, Option, sym, refl, ap, ◌∙◌, subst as tr, arith, length-append, length-drop}
 use mathlib.Core.Option as M
-use Rattle.std.proofs.lemmas.List.{get_or-drop, drop-drop, drop_all, take_at}
+use Rattle.std.proofs.Math.ListN.{get_or-append}
+use Rattle.std.proofs.lemmas.List.{get_or-drop, drop-drop, drop-take, drop_at, take_at}
+use Rattle.std.specs.Cmp.Lexicographic.{pointwise}
 use Rattle.theory.specs.Terms.{Head, h_def, h_data, h_con, h_rec, h_eq, h_refl, h_along, Term, const, option}
 use Rattle.terms.specs.Words.{put, root, At, Holds}
 use Rattle.terms.specs.declared.sign.Sign.{Sign}
@@ -34,7 +36,21 @@ name_bytes tree p x n =
     ap (λ (k : ℕ). take k (drop (p + 1) tree)) (let z : p + 1 + get_or tree p 0 - (p + 1) ≡ length x = omega (arith, name_length tree p x n) in z)
     ∙ ap (take (length x)) (sym (drop-drop 1 p tree) ∙ ap (drop 1) n.stands) ∙ take_at x n.rest (length x) refl
 
--- The names that are bound, from some place of the stack on: those before it are none of them x.
+-- What `==` says of two names.
+pub words_same : (x y : Name) → pointwise nat_eq x y ≡ same x y
+words_same [] [] = refl
+words_same [] (y ∷ ys) = refl
+words_same (x ∷ xs) [] = refl
+words_same (x ∷ xs) (y ∷ ys) = ap (λ (b : Bool). eqb x y && b) (words_same xs ys)
+
+-- A part of some length, its words.
+two_words : {D : Type 0} (f : List ℕ) → length f ≡ 2 → ((k p : ℕ) → f ≡ k ∷ p ∷ [] → D) → D
+two_words [] l g = absurd (let z : ⊥ = omega arith in z)
+two_words (k ∷ []) l g = absurd (let z : ⊥ = omega arith in z)
+two_words (k ∷ p ∷ []) l g = g k p refl
+two_words (k ∷ p ∷ q ∷ r) l g = absurd (let z : ⊥ = omega arith in z)
+
+-- The names that are bound, behind some frames: those are none of them x.
 abbrev pub further : ℕ → M.Option ℕ → Option ℕ
 further n o = option o None (λ k. Some (n + k))
 
@@ -43,8 +59,9 @@ pub record Looking (tree words : List ℕ) (x : Name) (index : ℕ) (ys : List N
   pub at : ScopeAt tree words names
   pub says : index_found ys x ≡ further index (index_of names x)
 
-abbrev pub LookingAll : List ℕ → List ℕ → ℕ → Name → ℕ → ℕ → Type 0
-LookingAll tree stack free x place index = (index ≤ place) × ((ys : List Name) → ScopeAt tree (drop free stack) ys → Looking tree (drop place stack) x index ys)
+pub record LookingAll (tree frames : List ℕ) (x : Name) (index : ℕ) (words : List ℕ) : Type 0 where
+  pub few : 2 * index + length words ≤ length frames
+  pub all : (ys : List Name) → ScopeAt tree frames ys → Looking tree words x index ys
 
 further_none : (o : M.Option ℕ) → option o None Some ≡ further 0 o
 further_none M.none = refl
@@ -54,85 +71,85 @@ further_miss : (n : ℕ) (o : M.Option ℕ) → further n (option o M.none (λ k
 further_miss n M.none = refl
 further_miss n (M.some k) = ap Some (let z : n + suc k ≡ n + 1 + k = omega arith in z)
 
-pub look_start : (tree stack : List ℕ) (free : ℕ) (x : Name) → LookingAll tree stack free x free 0
-look_start tree stack free x = (omega arith, λ ys a. record { names = ys; at = a; says = further_none (index_of ys x) })
+pub look_start : (tree frames : List ℕ) (x : Name) (words : List ℕ) → words ≡ frames → LookingAll tree frames x 0 words
+look_start tree frames x words e = record {
+  few = omega (arith, ap length e);
+  all = λ ys a. record { names = ys; at = tr (λ (z : List ℕ). ScopeAt tree z ys) (sym e) a; says = further_none (index_of ys x) };
+}
 
--- Two words stand there, and the second is a name's place if the first is 2.
-pub look_two : (tree stack : List ℕ) (place : ℕ) (ys : List Name) → ScopeAt tree (drop place stack) ys → place < length stack → place + 2 ≤ length stack
-look_two tree stack place ys a h = go (drop place stack) refl a
+-- The frame k ∷ p, and what is behind it.
+named_here : {tree : List ℕ} {k p : ℕ} {ws : List ℕ} {zs : List Name} → ScopeAt tree (k ∷ p ∷ ws) zs → k ≡ 2 → Named tree p
+named_here (passed n b) t = absurd (n t)
+named_here (bound {y = y} n b) t = record { name = y; at = n }
+
+hit_here : {tree : List ℕ} {k p : ℕ} {ws : List ℕ} (index : ℕ) (x : Name) {zs : List Name} → ScopeAt tree (k ∷ p ∷ ws) zs → k ≡ 2
+    → (other : Name) → ((y : Name) → NameAt tree p y → other ≡ y) → same other x ≡ true → further index (index_of zs x) ≡ Some index
+hit_here index x (passed n b) t other o s = absurd (n t)
+hit_here index x (bound {y = y} n b) t other o s =
+    let q : same y x ≡ true = ap (λ (z : Name). same z x) (sym (o y n)) ∙ s in
+    rw q (ap Some (let z : index + 0 ≡ index = omega arith in z))
+
+miss_here : {tree : List ℕ} {k p : ℕ} {ws : List ℕ} (index : ℕ) (x : Name) (ys : List Name) {zs : List Name} → ScopeAt tree (k ∷ p ∷ ws) zs → k ≡ 2
+    → (other : Name) → ((y : Name) → NameAt tree p y → other ≡ y) → same other x ≡ false → index_found ys x ≡ further index (index_of zs x) → Looking tree ws x (index + 1) ys
+miss_here index x ys (passed n b) t other o s f = absurd (n t)
+miss_here index x ys (bound {y = y} {ys = zs} n b) t other o s f =
+    let q : same y x ≡ false = ap (λ (z : Name). same z x) (sym (o y n)) ∙ s in
+    record {
+      names = zs;
+      at = b;
+      says = f ∙ (let z : further index (index_of (y ∷ zs) x) ≡ further index (option (index_of zs x) M.none (λ k. M.some (suc k))) = rw q refl in z) ∙ further_miss index (index_of zs x);
+    }
+
+pass_here : {tree : List ℕ} {k p : ℕ} {ws : List ℕ} (index : ℕ) (x : Name) (ys : List Name) {zs : List Name} → ScopeAt tree (k ∷ p ∷ ws) zs → (k ≡ 2 → ⊥)
+    → index_found ys x ≡ further index (index_of zs x) → Looking tree ws x index ys
+pass_here index x ys (passed {ys = zs} n b) t f = record { names = zs; at = b; says = f }
+pass_here index x ys (bound n b) t f = absurd (t refl)
+
+-- The first frame among the words, looked at.
+module _ (tree frame words ws : List ℕ) (long : length frame ≡ 2) (e : words ≡ frame ++ ws) {index : ℕ} {x : Name} {ys : List Name} where
+  opens : (k p : ℕ) → frame ≡ k ∷ p ∷ [] → Looking tree words x index ys → Looking tree (k ∷ p ∷ ws) x index ys
+  opens k p g l = tr (λ (z : List ℕ). Looking tree z x index ys) (e ∙ ap (λ (z : List ℕ). z ++ ws) g) l
+
+  pub look_named : Looking tree words x index ys → get_or frame 0 0 ≡ 2 → Named tree (get_or frame 1 0)
+  look_named l t = two_words frame long λ k p g.
+      tr (Named tree) (sym (ap (λ (z : List ℕ). get_or z 1 0) g)) (named_here (opens k p g l).at (sym (ap (λ (z : List ℕ). get_or z 0 0) g) ∙ t))
+
+  pub look_hit : Looking tree words x index ys → get_or frame 0 0 ≡ 2 → (other : Name) → ((y : Name) → NameAt tree (get_or frame 1 0) y → other ≡ y) → pointwise nat_eq other x ≡ true → index_found ys x ≡ Some index
+  look_hit l t other o s = two_words frame long λ k p g.
+      let m = opens k p g l in
+      m.says ∙ hit_here index x m.at (sym (ap (λ (z : List ℕ). get_or z 0 0) g) ∙ t) other (λ y n. o y (tr (λ (q : ℕ). NameAt tree q y) (sym (ap (λ (z : List ℕ). get_or z 1 0) g)) n)) (sym (words_same other x) ∙ s)
+
+  pub look_miss : Looking tree words x index ys → get_or frame 0 0 ≡ 2 → (other : Name) → ((y : Name) → NameAt tree (get_or frame 1 0) y → other ≡ y) → pointwise nat_eq other x ≡ false → Looking tree ws x (index + 1) ys
+  look_miss l t other o s = two_words frame long λ k p g.
+      let m = opens k p g l in
+      miss_here index x ys m.at (sym (ap (λ (z : List ℕ). get_or z 0 0) g) ∙ t) other (λ y n. o y (tr (λ (q : ℕ). NameAt tree q y) (sym (ap (λ (z : List ℕ). get_or z 1 0) g)) n)) (sym (words_same other x) ∙ s) m.says
+
+  pub look_pass : Looking tree words x index ys → (get_or frame 0 0 ≡ 2 → ⊥) → Looking tree ws x index ys
+  look_pass l t = two_words frame long λ k p g.
+      let m = opens k p g l in
+      pass_here index x ys m.at (λ u. t (ap (λ (z : List ℕ). get_or z 0 0) g ∙ u)) m.says
+
+pub look_end : (tree words : List ℕ) {index : ℕ} {x : Name} {ys : List Name} → Looking tree words x index ys → length words < 2 → None ≡ index_found ys x
+look_end tree words {index} {x} l h = sym (l.says ∙ go l.at h)
   where
-    go : (ws : List ℕ) → drop place stack ≡ ws → {ys : List Name} → ScopeAt tree ws ys → place + 2 ≤ length stack
-    go [] e no_names = absurd (let z : ⊥ = omega (arith, length-drop place stack, ap length e) in z)
-    go (k ∷ []) e a = elim a [ ]
-    go (k ∷ p ∷ ws) e (passed n b) = omega (arith, length-drop place stack, ap length e)
-    go (k ∷ p ∷ ws) e (bound n b) = omega (arith, length-drop place stack, ap length e)
+    go : {ws : List ℕ} {zs : List Name} → ScopeAt tree ws zs → length ws < 2 → further index (index_of zs x) ≡ None
+    go no_names h = refl
+    go (passed n b) h = absurd (let z : ⊥ = omega arith in z)
+    go (bound n b) h = absurd (let z : ⊥ = omega arith in z)
 
-pub look_named : (tree stack : List ℕ) (place : ℕ) (ys : List Name) → ScopeAt tree (drop place stack) ys → place < length stack → get_or stack place 0 ≡ 2 → Named tree (get_or stack (place + 1) 0)
-look_named tree stack place ys a h t = go (drop place stack) refl a
-  where
-    go : (ws : List ℕ) → drop place stack ≡ ws → {ys : List Name} → ScopeAt tree ws ys → Named tree (get_or stack (place + 1) 0)
-    go [] e no_names = absurd (let z : ⊥ = omega (arith, length-drop place stack, ap length e) in z)
-    go (k ∷ []) e a = elim a [ ]
-    go (k ∷ p ∷ ws) e (passed n b) = absurd (n (sym (read_first stack place _ _ e) ∙ t))
-    go (k ∷ p ∷ ws) e (bound {y = y} n b) = record { name = y; at = tr (λ (q : ℕ). NameAt tree q y) (sym (read_second stack place _ _ _ e)) n }
-
-module _ (tree stack : List ℕ) (place : ℕ) {index : ℕ} {x : Name} {ys : List Name} where
-  pub look_hit : Looking tree (drop place stack) x index ys → place < length stack → get_or stack place 0 ≡ 2 → (other : Name)
-      → ((y : Name) → NameAt tree (get_or stack (place + 1) 0) y → other ≡ y) → same other x ≡ true → index_found ys x ≡ Some index
-  look_hit l h t other o s = l.says ∙ go (drop place stack) refl l.at
-    where
-      go : (ws : List ℕ) → drop place stack ≡ ws → {zs : List Name} → ScopeAt tree ws zs → further index (index_of zs x) ≡ Some index
-      go [] e no_names = absurd (let z : ⊥ = omega (arith, length-drop place stack, ap length e) in z)
-      go (k ∷ []) e a = elim a [ ]
-      go (k ∷ p ∷ ws) e (passed n b) = absurd (n (sym (read_first stack place _ _ e) ∙ t))
-      go (k ∷ p ∷ ws) e (bound {y = y} n b) =
-          let q : same y x ≡ true = ap (λ (z : Name). same z x) (sym (o y (tr (λ (q : ℕ). NameAt tree q y) (sym (read_second stack place _ _ _ e)) n))) ∙ s in
-          rw q (ap Some (let z : index + 0 ≡ index = omega arith in z))
-
-  pub look_miss : Looking tree (drop place stack) x index ys → place < length stack → get_or stack place 0 ≡ 2 → (other : Name)
-      → ((y : Name) → NameAt tree (get_or stack (place + 1) 0) y → other ≡ y) → same other x ≡ false → Looking tree (drop (place + 2) stack) x (index + 1) ys
-  look_miss l h t other o s = go (drop place stack) refl l.names l.at l.says
-    where
-      go : (ws : List ℕ) → drop place stack ≡ ws → (zs : List Name) → ScopeAt tree ws zs → index_found ys x ≡ further index (index_of zs x) → Looking tree (drop (place + 2) stack) x (index + 1) ys
-      go [] e zs no_names f = absurd (let z : ⊥ = omega (arith, length-drop place stack, ap length e) in z)
-      go (k ∷ []) e zs a f = elim a [ ]
-      go (k ∷ p ∷ ws) e zs (passed n b) f = absurd (n (sym (read_first stack place _ _ e) ∙ t))
-      go (k ∷ p ∷ ws) e (y ∷ zs) (bound n b) f =
-          let q : same y x ≡ false = ap (λ (z : Name). same z x) (sym (o y (tr (λ (q : ℕ). NameAt tree q y) (sym (read_second stack place _ _ _ e)) n))) ∙ s in
-          record {
-            names = zs;
-            at = tr (λ (v : List ℕ). ScopeAt tree v zs) (sym (sym (drop-drop 2 place stack) ∙ ap (drop 2) e)) b;
-            says = f ∙ (let z : further index (index_of (y ∷ zs) x) ≡ further index (option (index_of zs x) M.none (λ k. M.some (suc k))) = rw q refl in z) ∙ further_miss index (index_of zs x);
-          }
-
-  pub look_pass : Looking tree (drop place stack) x index ys → place < length stack → (get_or stack place 0 ≡ 2 → ⊥) → Looking tree (drop (place + 2) stack) x index ys
-  look_pass l h t = go (drop place stack) refl l.names l.at l.says
-    where
-      go : (ws : List ℕ) → drop place stack ≡ ws → (zs : List Name) → ScopeAt tree ws zs → index_found ys x ≡ further index (index_of zs x) → Looking tree (drop (place + 2) stack) x index ys
-      go [] e zs no_names f = absurd (let z : ⊥ = omega (arith, length-drop place stack, ap length e) in z)
-      go (k ∷ []) e zs a f = elim a [ ]
-      go (k ∷ p ∷ ws) e zs (passed n b) f = record { names = zs; at = tr (λ (v : List ℕ). ScopeAt tree v zs) (sym (sym (drop-drop 2 place stack) ∙ ap (drop 2) e)) b; says = f }
-      go (k ∷ p ∷ ws) e zs (bound n b) f = absurd (t (read_first stack place _ _ e))
-
-  pub look_end : Looking tree (drop place stack) x index ys → length stack ≤ place → index_found ys x ≡ None
-  look_end l h = l.says ∙ go (drop place stack) (drop_all place stack h) l.at
-    where
-      go : (ws : List ℕ) → ws ≡ [] → {zs : List Name} → ScopeAt tree ws zs → further index (index_of zs x) ≡ None
-      go [] e no_names = refl
-      go (k ∷ ws) e b = absurd (let z : ⊥ = omega (arith, ap length e) in z)
-
--- The rows of the table, from some row on: those before it are none of x.
+-- The rows of the table, behind some rows: those are none of x.
 pub record Rowing (tree words : List ℕ) (x : Name) (gs : List Global) : Type 0 where
   pub globals : List Global
   pub at : GlobalsAt tree words globals
   pub says : global_sign gs x ≡ global_sign globals x
 
-abbrev pub RowingAll : List ℕ → List ℕ → Name → ℕ → Type 0
-RowingAll tree table x row = (gs : List Global) → GlobalsAt tree table gs → Rowing tree (drop row table) x gs
+abbrev pub RowingAll : List ℕ → List ℕ → Name → List ℕ → Type 0
+RowingAll tree table x words = (gs : List Global) → GlobalsAt tree table gs → Rowing tree words x gs
 
-pub row_start : (tree table : List ℕ) (x : Name) → RowingAll tree table x 0
-row_start tree table x gs a = record { globals = gs; at = a; says = refl }
+pub row_start : (tree table : List ℕ) (x : Name) (words : List ℕ) → words ≡ table → RowingAll tree table x words
+row_start tree table x words e gs a = record { globals = gs; at = tr (λ (z : List ℕ). GlobalsAt tree z gs) (sym e) a; says = refl }
 
+-- The words of a head are three.
 const_behind : (h : Head) (r : List ℕ) → drop 3 (put (const h) r) ≡ r
 const_behind (h_def i) r = refl
 const_behind (h_data i) r = refl
@@ -141,6 +158,15 @@ const_behind (h_rec i j) r = refl
 const_behind (h_eq i) r = refl
 const_behind (h_refl i) r = refl
 const_behind (h_along i j) r = refl
+
+const_front : (h : Head) (r : List ℕ) → take 3 (put (const h) r) ≡ put (const h) []
+const_front (h_def i) r = refl
+const_front (h_data i) r = refl
+const_front (h_con i k) r = refl
+const_front (h_rec i j) r = refl
+const_front (h_eq i) r = refl
+const_front (h_refl i) r = refl
+const_front (h_along i j) r = refl
 
 const_length : (h : Head) (r : List ℕ) → length (put (const h) r) ≡ 3 + length r
 const_length (h_def i) r = omega arith
@@ -151,56 +177,51 @@ const_length (h_eq i) r = omega arith
 const_length (h_refl i) r = omega arith
 const_length (h_along i j) r = omega arith
 
--- The row that stands there.
-pub record RowAt (tree table : List ℕ) (row : ℕ) (g : Global) (gs : List Global) : Type 0 where
-  pub within : row + 4 ≤ length table
-  pub name : NameAt tree (get_or table row 0) g.name
-  pub behind : List ℕ
-  pub head : At table (row + 1) (const g.head) behind
-  pub more : GlobalsAt tree (drop (row + 4) table) gs
+-- The row of a global, by itself, and the rows behind it.
+pub record RowAt (tree row ws : List ℕ) (g : Global) (gs : List Global) : Type 0 where
+  pub name : NameAt tree (get_or row 0 0) g.name
+  pub head : At row 1 (const g.head) []
+  pub more : GlobalsAt tree ws gs
 
-row_at : (tree table : List ℕ) (row : ℕ) {g : Global} {gs : List Global} (r : Row tree (drop row table) g) → GlobalsAt tree r.behind gs → RowAt tree table row g gs
-row_at tree table row {g} {gs} r m = record {
-  within = omega (arith, length-drop row table, ap length r.words, const_length g.head r.behind);
-  name = tr (λ (q : ℕ). NameAt tree q g.name) (sym (read_first table row _ _ r.words)) r.at;
-  behind = r.behind;
-  head = record { stands = sym (drop-drop 1 row table) ∙ ap (drop 1) r.words };
-  more = tr (λ (v : List ℕ). GlobalsAt tree v gs) (sym (sym (drop-drop 4 row table) ∙ ap (drop 4) r.words ∙ const_behind g.head r.behind)) m;
+row_at : (tree row ws : List ℕ) {words : List ℕ} {g : Global} {gs : List Global} → length row ≡ 4 → words ≡ row ++ ws → (r : Row tree words g) → GlobalsAt tree r.behind gs → RowAt tree row ws g gs
+row_at tree row ws {words} {g} {gs} long e r m = record {
+  name = tr (λ (q : ℕ). NameAt tree q g.name) (sym (sym (get_or-append row ws 0 0 (omega arith)) ∙ ap (λ (z : List ℕ). get_or z 0 0) is)) r.at;
+  head = record { stands = ap (drop 1) (sym (take_at row ws 4 long)) ∙ drop-take 1 3 (row ++ ws) ∙ ap (λ (z : List ℕ). take 3 (drop 1 z)) is ∙ const_front g.head r.behind };
+  more = tr (λ (v : List ℕ). GlobalsAt tree v gs) (sym (sym (drop_at row ws 4 long) ∙ ap (drop 4) is ∙ const_behind g.head r.behind)) m;
 }
-
-pub row_view : {D : Type 0} (tree table : List ℕ) (row : ℕ) (gs : List Global) → row < length table → GlobalsAt tree (drop row table) gs
-    → ((g : Global) (hs : List Global) → gs ≡ g ∷ hs → RowAt tree table row g hs → D) → D
-row_view {D} tree table row gs h a k = go (drop row table) refl gs a (λ g hs e r. k g hs e r)
   where
-    go : (ws : List ℕ) → drop row table ≡ ws → (zs : List Global) → GlobalsAt tree ws zs → ((g : Global) (hs : List Global) → zs ≡ g ∷ hs → RowAt tree table row g hs → D) → D
-    go ws e zs no_rows k = absurd (let z : ⊥ = omega (arith, length-drop row table, ap length e) in z)
-    go ws e (g ∷ hs) (a_row r m) k = k g hs refl (row_at tree table row (record { place = r.place; behind = r.behind; words = e ∙ r.words; at = r.at; bare = r.bare }) m)
+    is : row ++ ws ≡ r.place ∷ put (const g.head) r.behind
+    is = sym e ∙ r.words
 
-pub row_within : (tree table : List ℕ) (row : ℕ) (gs : List Global) → row < length table → GlobalsAt tree (drop row table) gs → row + 4 ≤ length table
-row_within tree table row gs h a = row_view tree table row gs h a λ g hs e r. r.within
+pub row_view : {D : Type 0} (tree row words ws : List ℕ) (gs : List Global) → length row ≡ 4 → words ≡ row ++ ws → GlobalsAt tree words gs → ((g : Global) (hs : List Global) → gs ≡ g ∷ hs → RowAt tree row ws g hs → D) → D
+row_view {D} tree row words ws gs long e a k = go words e gs a k
+  where
+    go : (vs : List ℕ) → vs ≡ row ++ ws → (zs : List Global) → GlobalsAt tree vs zs → ((g : Global) (hs : List Global) → zs ≡ g ∷ hs → RowAt tree row ws g hs → D) → D
+    go vs e zs no_rows k = absurd (let z : ⊥ = omega (arith, ap length e, length-append row ws) in z)
+    go vs e (g ∷ hs) (a_row r m) k = k g hs refl (row_at tree row ws long e r m)
 
-pub row_named : (tree table : List ℕ) (row : ℕ) (gs : List Global) → row < length table → GlobalsAt tree (drop row table) gs → Named tree (get_or table row 0)
-row_named tree table row gs h a = row_view tree table row gs h a λ g hs e r. record { name = g.name; at = r.name }
+module _ (tree row words ws : List ℕ) (long : length row ≡ 4) (e : words ≡ row ++ ws) where
+  pub row_named : (gs : List Global) → GlobalsAt tree words gs → Named tree (get_or row 0 0)
+  row_named gs a = row_view tree row words ws gs long e a λ g hs e r. record { name = g.name; at = r.name }
 
-pub row_holds : (tree table : List ℕ) (row : ℕ) (gs : List Global) → row < length table → GlobalsAt tree (drop row table) gs → Holds table (row + 1)
-row_holds tree table row gs h a = row_view tree table row gs h a λ g hs e r. record { term = const g.head; rest = r.behind; at = r.head }
+  pub row_holds : (gs : List Global) → GlobalsAt tree words gs → Holds row 1
+  row_holds gs a = row_view tree row words ws gs long e a λ g hs e r. record { term = const g.head; rest = []; at = r.head }
 
-module _ (tree table : List ℕ) (row : ℕ) {x : Name} {gs : List Global} where
-  pub row_hit : Rowing tree (drop row table) x gs → row < length table → (other : Name) → ((y : Name) → NameAt tree (get_or table row 0) y → other ≡ y) → same other x ≡ true
-      → (s : Sign) → ((t : Term) (rest : List ℕ) → At table (row + 1) t rest → s ≡ root t) → Some s ≡ global_sign gs x
-  row_hit w h other o q s f = row_view tree table row w.globals h w.at λ g hs e r.
-      let p : same g.name x ≡ true = ap (λ (z : Name). same z x) (sym (o g.name r.name)) ∙ q in
-      ap Some (f _ _ r.head) ∙ sym (w.says ∙ ap (λ (z : List Global). global_sign z x) e ∙ (let z : global_sign (g ∷ hs) x ≡ Some (root (const g.head)) = rw p refl in z))
+  module _ {x : Name} {gs : List Global} where
+    pub row_hit : Rowing tree words x gs → (other : Name) → ((y : Name) → NameAt tree (get_or row 0 0) y → other ≡ y) → pointwise nat_eq other x ≡ true
+        → (s : Sign) → ((t : Term) (rest : List ℕ) → At row 1 t rest → s ≡ root t) → Some s ≡ global_sign gs x
+    row_hit w other o q s f = row_view tree row words ws w.globals long e w.at λ g hs e r.
+        let p : same g.name x ≡ true = ap (λ (z : Name). same z x) (sym (o g.name r.name)) ∙ sym (words_same other x) ∙ q in
+        ap Some (f _ _ r.head) ∙ sym (w.says ∙ ap (λ (z : List Global). global_sign z x) e ∙ (let z : global_sign (g ∷ hs) x ≡ Some (root (const g.head)) = rw p refl in z))
 
-  pub row_miss : Rowing tree (drop row table) x gs → row < length table → (other : Name) → ((y : Name) → NameAt tree (get_or table row 0) y → other ≡ y) → same other x ≡ false
-      → Rowing tree (drop (row + 4) table) x gs
-  row_miss w h other o q = row_view tree table row w.globals h w.at λ g hs e r.
-      let p : same g.name x ≡ false = ap (λ (z : Name). same z x) (sym (o g.name r.name)) ∙ q in
-      record { globals = hs; at = r.more; says = w.says ∙ ap (λ (z : List Global). global_sign z x) e ∙ (let z : global_sign (g ∷ hs) x ≡ global_sign hs x = rw p refl in z) }
+    pub row_miss : Rowing tree words x gs → (other : Name) → ((y : Name) → NameAt tree (get_or row 0 0) y → other ≡ y) → pointwise nat_eq other x ≡ false → Rowing tree ws x gs
+    row_miss w other o q = row_view tree row words ws w.globals long e w.at λ g hs e r.
+        let p : same g.name x ≡ false = ap (λ (z : Name). same z x) (sym (o g.name r.name)) ∙ sym (words_same other x) ∙ q in
+        record { globals = hs; at = r.more; says = w.says ∙ ap (λ (z : List Global). global_sign z x) e ∙ (let z : global_sign (g ∷ hs) x ≡ global_sign hs x = rw p refl in z) }
 
-  pub row_end : Rowing tree (drop row table) x gs → length table ≤ row → None ≡ global_sign gs x
-  row_end w h = sym (w.says ∙ go (drop row table) (drop_all row table h) w.at)
-    where
-      go : (ws : List ℕ) → ws ≡ [] → {zs : List Global} → GlobalsAt tree ws zs → global_sign zs x ≡ None
-      go ws e no_rows = refl
-      go ws e (a_row r m) = absurd (let z : ⊥ = omega (arith, ap length (sym r.words ∙ e)) in z)
+pub row_end : (tree words : List ℕ) {x : Name} {gs : List Global} → Rowing tree words x gs → length words < 4 → None ≡ global_sign gs x
+row_end tree words {x} w h = sym (w.says ∙ go w.at h)
+  where
+    go : {ws : List ℕ} {zs : List Global} → GlobalsAt tree ws zs → length ws < 4 → global_sign zs x ≡ None
+    go no_rows h = refl
+    go (a_row {g = g} r m) h = absurd (let z : ⊥ = omega (arith, ap length r.words, const_length g.head r.behind) in z)

@@ -1,5 +1,5 @@
 -- Declarations resolved: the rows that they add to the table, and the entries that they stand for.
-use Rattle.std.specs.Prelude.{◌≡◌, ℕ, ◌+◌, ◌*◌, ◌≤◌, Bool, true, false, List, [], length, drop, ◌==◌}
+use Rattle.std.specs.Prelude.{◌≡◌, ℕ, ◌+◌, ◌*◌, ◌≤◌, Bool, true, false, List, [], length, drop, ◌==◌, Option, Some, None, Result, Ok, Err}
 use Rattle.theory.specs.Terms.{Term, size}
 use Rattle.theory.specs.Environment.{Entry, defined, assumed, inductive}
 use Rattle.terms.specs.Words.{put}
@@ -11,7 +11,7 @@ use Rattle.elaboration.specs.Declarations.{ElabDecl}
 use Rattle.resolver.specs.Resolving.{nodes, basic_decl}
 use Rattle.resolver.specs.Names.{Named, GlobalsAt}
 use Rattle.resolver.specs.declared.declarations.Declared.{Declared}
-use Rattle.resolver.specs.declared.declarations.Declared.TheVariants.{Definition, Axiom, Nowhere}
+use Rattle.resolver.specs.declared.walk.Nowhere.{Nowhere}
 
 -- Is it a definition or an axiom that hides no arguments?
 abbrev pub unhidden : Decl → Bool
@@ -73,8 +73,12 @@ pub record AxiomWritten (tree : List ℕ) (gs : List Global) (d : Decl) (rest be
   pub type : Term
   pub written : DeclWritten tree gs d rest before start after (assumed type) end behind
 
+-- One of these: there is a body for a definition.
+abbrev pub EntryWritten : List ℕ → List Global → Decl → List ℕ → List ℕ → ℕ → List ℕ → Option ℕ → ℕ → ℕ → Type 0
+EntryWritten tree gs d rest before start after (Some body_at) end behind = DefWritten tree gs d rest before start after body_at end behind
+EntryWritten tree gs d rest before start after None end behind = AxiomWritten tree gs d rest before start after end behind
+
 -- The answer: one of these, or d elaborates to no entry, and a name of it stands at that place.
-abbrev pub DeclResolves : List ℕ → List Global → Decl → List ℕ → List ℕ → ℕ → List ℕ → Declared → Type 0
-DeclResolves tree gs d rest before start after (Definition body_at end behind) = DefWritten tree gs d rest before start after body_at end behind
-DeclResolves tree gs d rest before start after (Axiom end behind) = AxiomWritten tree gs d rest before start after end behind
-DeclResolves tree gs d rest before start after (Nowhere p) = ((c : Entry) → ElabDecl gs d c → ⊥) × Named tree p
+abbrev pub DeclResolves : List ℕ → List Global → Decl → List ℕ → List ℕ → ℕ → List ℕ → Result Declared Nowhere → Type 0
+DeclResolves tree gs d rest before start after (Ok r) = EntryWritten tree gs d rest before start after r.body r.end r.behind
+DeclResolves tree gs d rest before start after (Err n) = ((c : Entry) → ElabDecl gs d c → ⊥) × Named tree n.0

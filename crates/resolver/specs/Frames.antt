@@ -1,5 +1,5 @@
 -- The walk over a plain term: what waits, and which names are bound, on a stack of frames; and what is promised of the whole.
-use Rattle.std.specs.Prelude.{◌≡◌, ℕ, ◌+◌, ◌*◌, ◌≤◌, List, [], ◌∷◌, length, drop}
+use Rattle.std.specs.Prelude.{◌≡◌, ℕ, ◌+◌, ◌*◌, ◌≤◌, List, [], ◌∷◌, length, drop, Result, Ok, Err}
 use Rattle.theory.specs.Terms.{Term}
 use Rattle.terms.specs.Words.{put}
 use Rattle.terms.specs.Writing.{Appends}
@@ -11,13 +11,21 @@ use Rattle.resolver.specs.Resolving.{nodes}
 use Rattle.resolver.specs.Names.{Named, GlobalsAt, ScopeAt}
 use Rattle.resolver.specs.Nodes.{PlainAt}
 use Rattle.resolver.specs.declared.walk.Resolved.{Resolved}
-use Rattle.resolver.specs.declared.walk.Resolved.TheVariants.{Done, Nowhere}
+use Rattle.resolver.specs.declared.walk.Nowhere.{Nowhere}
+use Rattle.resolver.specs.declared.walk.FrameKind.{FrameKind}
+use Rattle.resolver.specs.declared.walk.FrameKind.TheVariants.{Argument, Body, Bound}
 
 -- A frame: an argument waits; a body waits, which will be under a name; a body is at hand, under a name. With the name's place.
 pub data Frame : Type 0 where
   waits : ℕ → Expr → Frame
   body : ℕ → Name → Expr → Frame
   under : ℕ → Name → Frame
+
+-- The word of a kind of frame.
+abbrev pub kind_word : FrameKind → ℕ
+kind_word Argument = 0
+kind_word Body = 1
+kind_word Bound = 2
 
 -- Frames in words, the top first, before what follows: two words each.
 abbrev pub put_frames : List Frame → List ℕ → List ℕ
@@ -98,6 +106,6 @@ pub record Written (tree : List ℕ) (gs : List Global) (ys : List Name) (e : Ex
   pub goes_on : drop behind tree ≡ rest
 
 -- The answer: such a term, or e elaborates to none, and a name of it stands at that place.
-abbrev pub Resolves : List ℕ → List Global → List Name → Expr → List ℕ → List ℕ → ℕ → List ℕ → Resolved → Type 0
-Resolves tree gs ys e rest before start after (Done end behind) = Written tree gs ys e rest before start after end behind
-Resolves tree gs ys e rest before start after (Nowhere p) = ((t : Term) → Elab gs ys e t → ⊥) × Named tree p
+abbrev pub Resolves : List ℕ → List Global → List Name → Expr → List ℕ → List ℕ → ℕ → List ℕ → Result Resolved Nowhere → Type 0
+Resolves tree gs ys e rest before start after (Ok r) = Written tree gs ys e rest before start after r.end r.behind
+Resolves tree gs ys e rest before start after (Err n) = ((t : Term) → Elab gs ys e t → ⊥) × Named tree n.0

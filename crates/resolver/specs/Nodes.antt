@@ -9,7 +9,8 @@ use Rattle.syntax.specs.Surface.{Name, Expr, e_name, e_at, e_full, e_sort, e_pi,
 use Rattle.syntax.specs.Tree.{put_expr, put_name, put_numbers}
 use Rattle.elaboration.specs.Elaboration.{Global}
 use Rattle.resolver.specs.Resolving.{basic, name_term, indexed_term}
-use Rattle.resolver.specs.Names.{Tabled, Scoped}
+use Rattle.resolver.specs.Names.{GlobalsAt, Tabled, ScopeAt, Scoped}
+use Rattle.resolver.specs.declared.names.Names.{Names}
 
 -- The node of a term, and of a head, if there is one.
 abbrev pub term_sign : M.Option Term → Option Sign
@@ -88,6 +89,14 @@ pub record Indexed (tree : List ℕ) (p : ℕ) : Type 0 where
 pub record Known (tree table words : List ℕ) : Type 0 where
   pub globals : Tabled tree table
   pub scope : Scoped tree words
+
+abbrev pub AreKnown : Names → Type 0
+AreKnown n = Known n.tree.now n.table.now n.frames.now
+
+-- They are these globals and these bound names.
+pub record KnownAs (n : Names) (gs : List Global) (ys : List Name) : Type 0 where
+  pub globals : GlobalsAt n.tree.now n.table.now gs
+  pub scope : ScopeAt n.tree.now n.frames.now ys
 
 -- Behind the node at p, at q, stand its parts, and behind them rest.
 pub record PartsAt (tree : List ℕ) (p : ℕ) (e : Expr) (rest : List ℕ) (q : ℕ) : Type 0 where

@@ -8,23 +8,15 @@ ghost use Rattle.elaboration.specs.Declarations.{globals_of};
 ghost use Rattle.resolver.specs.Names.{GlobalsAt};
 ghost use Rattle.resolver.specs.Entries.{DeclAt, DeclStands, DeclSetting, DeclReady, DeclResolves};
 
-use crate::walk::{Resolved, resolve_term};
+use crate::walk::{Nowhere, Resolved, resolve_term};
 use terms::sign::{Sign, push_sign};
 
-// A definition is written: its type, then its body from `body` on; an axiom: its type; both up to `end`, and the tree goes on at
-// `behind`. Or the name at that place is nowhere.
-#[derive(Clone, Copy)]
-pub enum Declared {
-    Definition {
-        body: usize,
-        end: usize,
-        behind: usize,
-    },
-    Axiom {
-        end: usize,
-        behind: usize,
-    },
-    Nowhere(usize),
+// A declaration is written: its type, then from `body` on its body, if it has one; up to `end`, and the tree goes on at `behind`.
+#[derive(Clone, Copy, Debug, PartialEq, Eq)]
+pub struct Declared {
+    pub body: Option<usize>,
+    pub end: usize,
+    pub behind: usize,
 }
 
 // One row more: the place of a name, and what it stands for.
@@ -56,29 +48,33 @@ pub fn resolve_declaration(
     stack: &mut [u32],
     out: &mut [u32],
     start: usize,
-) -> Declared
+) -> Result<Declared, Nowhere>
     requires ready { DeclReady tree.now at table.now stack.old out.old start }
     requires near { length tree.now ≤ 2 ^ 32 }
     ensures { (gs : List Global) (d : Decl) (rest : List ℕ) → DeclSetting tree.now at table.now stack.old out.old start gs d rest → DeclResolves tree.now gs d rest out.old start out.new result }
 {
     let type_at = at + 3 + tree[at + 1] as usize;
     let top = stack.len();
-    match resolve_term(tree, type_at, table, stack, top, out, start) {
-        Resolved::Nowhere(name) => Declared::Nowhere(name),
-        Resolved::Done {
-            end: body,
-            behind: body_at,
-        } => {
-            if tree[at] == 14 {
-                return Declared::Axiom {
-                    end: body,
-                    behind: body_at,
-                };
-            }
-            match resolve_term(tree, body_at, table, stack, top, out, body) {
-                Resolved::Nowhere(name) => Declared::Nowhere(name),
-                Resolved::Done { end, behind } => Declared::Definition { body, end, behind },
-            }
-        }
+    let a_type = resolve_term(tree, type_at, table, stack, top, out, start)?;
+    if tree[at] == 14 {
+        return Ok(Declared {
+            body: None,
+            end: a_type.end,
+            behind: a_type.behind,
+        });
     }
+    let Resolved { end, behind } = resolve_term(
+        tree,
+        a_type.behind,
+        table,
+        stack,
+        top,
+        out,
+        a_type.end,
+    )?;
+    Ok(Declared {
+        body: Some(a_type.end),
+        end,
+        behind,
+    })
 }

@@ -1,24 +1,19 @@
 // Names looked up: among those that are bound, and among those that were declared.
-ghost use Rattle.std.specs.Prelude.{◌≡◌, List, drop};
-ghost use Rattle.syntax.specs.Surface.{Name, same};
+ghost use Rattle.std.specs.Prelude.{◌≡◌, List};
+ghost use Rattle.syntax.specs.Surface.{Name};
 ghost use Rattle.elaboration.specs.Elaboration.{Global};
 ghost use Rattle.resolver.specs.Names.{NameAt, Named, GlobalsAt, Tabled, ScopeAt, Scoped, global_sign, index_found};
 
+use crate::walk::FrameKind;
 use terms::sign::{Sign, sign_at};
 
-// Are the words the same?
-pub fn same_words(left: &[u32], right: &[u32]) -> bool
-    ensures { result ≡ same left.now right.now }
-{
-    if left.len() != right.len() {
-        return false;
-    }
-    for i in 0..left.len() {
-        if left[i] != right[i] {
-            return false;
-        }
-    }
-    true
+// The names at hand: those that were declared, in the rows of a table, and those that are bound, in frames; both by their places in
+// the tree.
+#[derive(Clone, Copy)]
+pub struct Names<'a> {
+    pub tree: &'a [u32],
+    pub table: &'a [u32],
+    pub frames: &'a [u32],
 }
 
 // The name that stands there.
@@ -31,38 +26,34 @@ pub fn name_at(tree: &[u32], at: usize) -> &[u32]
     &tree[start..end]
 }
 
-// The de Bruijn index of a name that is bound; the words of the stack from `free` on say which are.
-pub fn index_of(tree: &[u32], stack: &[u32], free: usize, name: &[u32]) -> Option<usize>
-    requires { Scoped tree.now (drop free stack.now) }
-    ensures { (ys : List Name) → ScopeAt tree.now (drop free stack.now) ys → result ≡ index_found ys name.now }
-{
-    let mut place = free;
-    let mut index = 0;
-    while place < stack.len() {
-        if stack[place] == 2 {
-            let other = name_at(tree, stack[place + 1] as usize);
-            if same_words(other, name) {
-                return Some(index);
+impl Names<'_> {
+    // The de Bruijn index of a name that is bound.
+    pub fn index_of(&self, name: &[u32]) -> Option<usize>
+        requires { Scoped self.now.tree.now self.now.frames.now }
+        ensures { (ys : List Name) → ScopeAt self.now.tree.now self.now.frames.now ys → result ≡ index_found ys name.now }
+    {
+        let mut index = 0;
+        for frame in self.frames.chunks_exact(2) {
+            if frame[0] == FrameKind::Bound as u32 {
+                if name_at(self.tree, frame[1] as usize) == name {
+                    return Some(index);
+                }
+                index += 1;
             }
-            index += 1;
         }
-        place += 2;
+        None
     }
-    None
-}
 
-// The node for the first global of that name.
-pub fn lookup(tree: &[u32], table: &[u32], name: &[u32]) -> Option<Sign>
-    requires { Tabled tree.now table.now }
-    ensures { (gs : List Global) → GlobalsAt tree.now table.now gs → result ≡ global_sign gs name.now }
-{
-    let mut row = 0;
-    while row < table.len() {
-        let other = name_at(tree, table[row] as usize);
-        if same_words(other, name) {
-            return Some(sign_at(table, row + 1));
+    // The node for the first global of that name.
+    pub fn lookup(&self, name: &[u32]) -> Option<Sign>
+        requires { Tabled self.now.tree.now self.now.table.now }
+        ensures { (gs : List Global) → GlobalsAt self.now.tree.now self.now.table.now gs → result ≡ global_sign gs name.now }
+    {
+        for row in self.table.chunks_exact(4) {
+            if name_at(self.tree, row[0] as usize) == name {
+                return Some(sign_at(row, 1));
+            }
         }
-        row += 4;
+        None
     }
-    None
 }

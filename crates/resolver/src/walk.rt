@@ -1,27 +1,40 @@
 // A plain term turned into a term in words, node by node, from left to right. What waits stands on a stack that grows down, two words
-// a frame: 0 an argument waits, 1 a body waits, 2 a body is at hand; then the place of the name that it is under.
+// a frame: what kind of frame it is; then the place of the name that it is under.
 ghost use Rattle.std.specs.Prelude.{◌≡◌, ℕ, ◌+◌, ◌^◌, ◌<◌, ◌≤◌, List, length, drop};
 ghost use Rattle.syntax.specs.Surface.{Name, Expr};
 ghost use Rattle.elaboration.specs.Elaboration.{Global};
-ghost use Rattle.resolver.specs.Frames.{Frame, FramesAt, Framed, opened, entered, kind, PushesTwo, Setting, Ready, Resolves};
+ghost use Rattle.resolver.specs.Frames.{Frame, FramesAt, Framed, opened, entered, kind, kind_word, PushesTwo, Setting, Ready, Resolves};
 
-use crate::nodes::{node_sign, parts_at};
+use crate::names::Names;
+use crate::nodes::parts_at;
 use terms::sign::{Sign, has_parts, push_sign};
 
-// The term is written up to `end`, and the tree goes on at `behind`; or the name at that place is nowhere.
-#[derive(Clone, Copy)]
-pub enum Resolved {
-    Done { end: usize, behind: usize },
-    Nowhere(usize),
+// What stands in a frame: an argument or a body that waits, or a name that is bound, since its body is at hand.
+#[derive(Clone, Copy, Debug, PartialEq, Eq)]
+pub enum FrameKind {
+    Argument,
+    Body,
+    Bound,
 }
 
+// The term is written up to `end`, and the tree goes on at `behind`.
+#[derive(Clone, Copy, Debug, PartialEq, Eq)]
+pub struct Resolved {
+    pub end: usize,
+    pub behind: usize,
+}
+
+// The name at that place is nowhere.
+#[derive(Clone, Copy, Debug, PartialEq, Eq)]
+pub struct Nowhere(pub usize);
+
 // What waits behind a node with parts.
-fn kind_of(sign: Sign) -> u32
-    ensures { result ≡ kind sign }
+fn kind_of(sign: Sign) -> FrameKind
+    ensures { kind_word result ≡ kind sign }
 {
     match sign {
-        Sign::App => 0,
-        _ => 1,
+        Sign::App => FrameKind::Argument,
+        _ => FrameKind::Body,
     }
 }
 
@@ -32,7 +45,7 @@ fn wait(stack: &mut [u32], free: usize, sign: Sign, name: usize) -> usize
     requires near { name < 2 ^ 32 }
     ensures { PushesTwo stack.old free (kind sign) name stack.new result }
 {
-    stack[free - 2] = kind_of(sign);
+    stack[free - 2] = kind_of(sign) as u32;
     stack[free - 1] = name as u32;
     free - 2
 }
@@ -44,7 +57,7 @@ fn next_open(stack: &[u32], free: usize, top: usize) -> usize
 {
     let mut place = free;
     while place < top {
-        if stack[place] != 2 {
+        if stack[place] != FrameKind::Bound as u32 {
             return place;
         }
         place += 2;
@@ -58,10 +71,10 @@ fn enter(stack: &mut [u32], free: usize, top: usize) -> usize
     requires some { free < top }
     ensures { (fs : List Frame) (base : List ℕ) → FramesAt stack.old free top fs base → FramesAt stack.new result top (entered fs) base }
 {
-    if stack[free] == 0 {
+    if stack[free] == FrameKind::Argument as u32 {
         return free + 2;
     }
-    stack[free] = 2;
+    stack[free] = FrameKind::Bound as u32;
     free
 }
 
@@ -74,7 +87,7 @@ pub fn resolve_term(
     top: usize,
     out: &mut [u32],
     start: usize,
-) -> Resolved
+) -> Result<Resolved, Nowhere>
     requires ready { Ready tree.now at table.now stack.old top out.old start }
     requires near { length tree.now ≤ 2 ^ 32 }
     ensures { (gs : List Global) (ys : List Name) (e : Expr) (rest : List ℕ) → Setting tree.now at table.now stack.old top out.old start gs ys e rest → Resolves tree.now gs ys e rest out.old start out.new result × (drop top stack.new ≡ drop top stack.old) }
@@ -83,9 +96,12 @@ pub fn resolve_term(
     let mut end = start;
     let mut free = top;
     loop {
-        let Some(sign) = node_sign(tree, place, table, stack, free) else {
-            return Resolved::Nowhere(place + 1);
+        let names = Names {
+            tree,
+            table,
+            frames: &stack[free..],
         };
+        let sign = names.node_sign(place).ok_or(Nowhere(place + 1))?;
         end = push_sign(out, end, sign);
         let name = place + 1;
         place = parts_at(tree, place);
@@ -94,7 +110,7 @@ pub fn resolve_term(
         } else {
             free = next_open(stack, free, top);
             if free == top {
-                return Resolved::Done { end, behind: place };
+                return Ok(Resolved { end, behind: place });
             }
             free = enter(stack, free, top);
         }

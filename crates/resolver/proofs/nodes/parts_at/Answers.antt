@@ -9,12 +9,6 @@ offset_bounds-tree-place c = let h = plain_within _ _ c.requires in search rules
 pub bounds-tree-place : goal.bounds-tree-place
 bounds-tree-place c = let h = plain_within _ _ c.requires in search rules
 
-pub overflow_add-result : goal.overflow_add-result
-overflow_add-result c = let h = plain_within _ _ c.requires in search rules
-
-pub overflow_add-result-then-tag-eq4 : goal.overflow_add-result-then-tag-eq4
-overflow_add-result-then-tag-eq4 c = let h = plain_within _ _ c.requires in search rules
-
 pub overflow_add-behind : goal.overflow_add-behind
 overflow_add-behind c = let h = plain_within _ _ c.requires in search rules
 
@@ -30,17 +24,8 @@ bounds-tree-place-2 c = let h = plain_within _ _ c.requires in search rules
 pub overflow_add-behind-3 : goal.overflow_add-behind-3
 overflow_add-behind-3 c = let h = named_within _ _ (plain_named _ _ c.requires c.if-tag-eq7.false c.if-tag-eq4.false) in search rules
 
-pub overflow_add-result-then-tag-eq2 : goal.overflow_add-result-then-tag-eq2
-overflow_add-result-then-tag-eq2 c = let h = named_within _ _ (numbers_named _ _ c.requires c.if-tag-eq2.true) in search rules
-
-pub offset_bounds-tree-behind : goal.offset_bounds-tree-behind
-offset_bounds-tree-behind c = let h = named_within _ _ (numbers_named _ _ c.requires c.if-tag-eq2.true) in search rules
-
 pub bounds-tree-behind : goal.bounds-tree-behind
 bounds-tree-behind c = let h = named_within _ _ (numbers_named _ _ c.requires c.if-tag-eq2.true) in search rules
-
-pub overflow_add-result-then-tag-eq2-2 : goal.overflow_add-result-then-tag-eq2-2
-overflow_add-result-then-tag-eq2-2 c = let h = named_within _ _ (numbers_named _ _ c.requires c.if-tag-eq2.true) in search rules
 
 pub returns-then-tag-eq7 : goal.returns-then-tag-eq7
 returns-then-tag-eq7 c e rest a = parts_app _ _ (shape _ _ _ _ a) c.if-tag-eq7.true

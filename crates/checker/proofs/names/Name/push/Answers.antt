@@ -1,12 +1,14 @@
-use Rattle.std.proofs.Common.{◌<◌, length, refl, add-one, arith, take-suc-set}
+use Rattle.std.proofs.Common.{◌≡◌, ◌<◌, [], ◌∷◌, length, sym, ap, ◌∙◌, arith, length-append}
+use Rattle.std.proofs.lemmas.Bool.Decides.{nat_tests}
+use Rattle.std.proofs.lemmas.List.{take_all, take-append-le}
 use Rattle.checker.proofs.names.Name.push.Goals as goal
 
-pub returns-then-self-lt-NAME_BYTES : goal.returns-then-self-lt-NAME_BYTES
-returns-then-self-lt-NAME_BYTES c =
-    let n = c.args.self.now in
-    record {
-      kept = λ h. rw add-one (take-suc-set n.buf n.len c.args.b (let z : n.len < length n.buf = omega arith in z));
-      whole = λ h. refl;
-      full = λ h. absurd (let z : ⊥ = omega arith in z);
-      long = λ h. absurd (let z : ⊥ = omega arith in z);
-    }
+pub returns-then-not-is_full : goal.returns-then-not-is_full
+returns-then-not-is_full c =
+    let room : length c.self.inside.bytes.items < 4097 = grind (arith, nat_tests) in
+    rw (c.push.ensures.items, c.self.view_is) (sym (take_all 4097 _ (omega (arith, ap length c.self.view_is, length-append c.args.self.now (c.args.b ∷ [])))))
+
+pub returns-else-not-is_full : goal.returns-else-not-is_full
+returns-else-not-is_full c =
+    let full : length c.self.inside.bytes.items ≡ 4097 = grind (arith, nat_tests) in
+    sym (take-append-le 4097 c.args.self.now _ (omega (arith, ap length c.self.view_is)) ∙ take_all 4097 c.args.self.now (omega (arith, ap length c.self.view_is)))
