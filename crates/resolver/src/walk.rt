@@ -7,7 +7,7 @@ ghost use Rattle.resolver.specs.Frames.{Frame, FramesAt, Framed, opened, entered
 
 use crate::names::Names;
 use crate::nodes::parts_at;
-use terms::sign::{Sign, has_parts, push_sign};
+use terms::sign::{Sign, push_sign};
 
 // What stands in a frame: an argument or a body that waits, or a name that is bound, since its body is at hand.
 #[derive(Clone, Copy, Debug, PartialEq, Eq)]
@@ -105,7 +105,7 @@ pub fn resolve_term(
         end = push_sign(out, end, sign);
         let name = place + 1;
         place = parts_at(tree, place);
-        if has_parts(sign) {
+        if sign.has_parts() {
             free = wait(stack, free, sign, name);
         } else {
             free = next_open(stack, free, top);
