@@ -19,7 +19,7 @@ use Rattle.kernel.specs.declared.check.Checked.{Checked as Verdict}
 use Rattle.kernel.specs.declared.check.Checked.TheVariants.{Holds, Refused, Spent, NoRoom}
 use Rattle.judge.specs.Promise.{landed}
 use Rattle.resolver.specs.Entries.{DeclWritten}
-use Rattle.judge.specs.declared.next.Entry.{Entry as Written}
+use Rattle.resolver.specs.declared.declarations.Declared.{Declared as Written}
 use Rattle.judge.specs.declared.row.Spot.{Spot}
 use Rattle.judge.specs.declared.row.Step.{Step}
 use Rattle.judge.specs.declared.row.Step.TheVariants as step

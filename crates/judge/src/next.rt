@@ -10,15 +10,7 @@ ghost use Rattle.judge.specs.Judging.{Ordered, BodyAt, EntryWritten};
 use reduction::declare::{enter_axiom, enter_definition};
 use resolver::declarations::{Declared, resolve_declaration};
 
-// An entry written into the store: where its body begins, if it has one, and where it ends; and where the tree goes on.
-#[derive(Clone, Copy)]
-pub struct Entry {
-    pub body: Option<usize>,
-    pub end: usize,
-    pub behind: usize,
-}
-
-// The entry that the declaration at a place of the tree stands for, written into the store from `start` on.
+// The entry that the declaration at a place of the tree stands for, written into the store from `start` on; none if a name is nowhere.
 fn resolve_next(
     tree: &[u32],
     place: usize,
@@ -26,25 +18,13 @@ fn resolve_next(
     names: &mut [u32],
     store: &mut [u32],
     start: usize,
-) -> Option<Entry>
+) -> Option<Declared>
     requires ready { DeclReady tree.now place table.now names.old store.old start }
     requires near { length tree.now ≤ 2 ^ 32 }
     ensures { (gs : List Global) (d : Decl) (rest : List ℕ) → DeclSetting tree.now place table.now names.old store.old start gs d rest
         → EntryWritten tree.now gs d rest store.old start store.new result }
 {
-    match resolve_declaration(tree, place, table, names, store, start) {
-        Declared::Nowhere(_) => None,
-        Declared::Definition { body, end, behind } => Some(Entry {
-            body: Some(body),
-            end,
-            behind,
-        }),
-        Declared::Axiom { end, behind } => Some(Entry {
-            body: None,
-            end,
-            behind,
-        }),
-    }
+    resolve_declaration(tree, place, table, names, store, start).ok()
 }
 
 // The entry whose terms stand in the store, three words behind the first `used`, put behind the environment.
