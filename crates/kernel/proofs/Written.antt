@@ -8,12 +8,13 @@ use Rattle.theory.specs.Typing.{t_var, t_head, t_sort, i_var, i_head, i_sort}
 use Rattle.theory.proofs.Options.{map-some, map-none}
 use Rattle.theory.proofs.Decisions.{var_no, head_no}
 use Rattle.theory.specs.Typing.{WfEnv, WfContext}
-use Rattle.kernel.specs.declared.leaf.Leaf.{Leaf}
+use Rattle.std.specs.Prelude.{Result}
+use Rattle.kernel.specs.declared.failure.Failure.{Failure}
 use Rattle.kernel.specs.Inference.{Has, Untyped}
 use Rattle.kernel.specs.Machine.{leaf_type}
 use Rattle.kernel.specs.Leaves.{LeafSays}
 
-pub head_leaf : (before after : List ℕ) (top stack : ℕ) (e : Env) (i : ℕ) (d : Entry) (r : Leaf) → get_elem? e i ≡ some d
+pub head_leaf : (before after : List ℕ) (top stack : ℕ) (e : Env) (i : ℕ) (d : Entry) (r : Result ℕ Failure) → get_elem? e i ≡ some d
     → LeafSays before top stack after (entry_type d) r → LeafSays before top stack after (head_type_lem e (h_def i)) r
 head_leaf before after top stack e i d r p s = tr (λ o. LeafSays before top stack after (option o none entry_type) r) (sym p) s
 
