@@ -1,13 +1,17 @@
 -- A redex replaced by what it contracts to, and what stands behind it moved along.
-use Rattle.std.proofs.Common.{◌≡◌, ℕ, ◌+◌, ◌-◌, ◌*◌, ◌^◌, ◌<◌, ◌≤◌, ◌⊎◌, List, [], ◌++◌, length, take, drop, sym, refl, ap, ◌∙◌, ap₂, inl, inr, append_assoc, arith, length-append, length-drop, length-take}
+use Rattle.std.proofs.Common.{◌≡◌, ℕ, ◌+◌, ◌-◌, ◌*◌, ◌^◌, ◌<◌, ◌≤◌, ◌⊎◌, List, [], ◌++◌, length, take, drop, Err, sym, refl, ap, ◌∙◌, ap₂, inl, inr, append_assoc, arith, length-append, length-drop, length-take}
 use Rattle.std.proofs.lemmas.List.{length-take-le, drop-take, drop_at, take_at}
 use Rattle.theory.specs.Terms.{Term, size}
+use mathlib.Core.Option.{some}
 use Rattle.theory.specs.Environment.{Env}
+use Rattle.theory.specs.Reduction.{normal_step}
 use Rattle.terms.specs.Words.{put, At, Small}
 use Rattle.terms.specs.Writing.{Appends}
 use Rattle.terms.proofs.Nodes.{put_append, put-length, scoped_small}
 use Rattle.terms.proofs.Appending.{append_as}
-use Rattle.reduction.specs.Stepping.{Stands, Ready, RedexAt, Contractible, Findable}
+use Rattle.reduction.specs.Stepping.{Stands, Ready, StepsTo, RedexAt, Makes, Contractible, Findable}
+use Rattle.reduction.specs.declared.step.StepError.{StepError}
+use Rattle.reduction.specs.declared.step.StepError.TheVariants.{NoRoom, NoStack, NotYet}
 use Rattle.reduction.proofs.Standing.{stands_in, stands_here, stands_front}
 use Rattle.reduction.proofs.Staying.{stays_now}
 use Rattle.reduction.proofs.Within.{small_inside}
@@ -130,6 +134,13 @@ too_long e heap scratch scratch' at t u end c made k s x w q y =
     let n = ap length (new_words e heap scratch scratch' at t u end c made s x w) ∙ put-length x.result x.rest in
     let z = result_size e _ u c x in
     elim y [ inl a ↦ inl (omega (arith, a, n, z)) | inr b ↦ inr (omega (arith, b, n, z, q)) ]
+
+-- What the redex contracts to was not written.
+pub unmade : (e : Env) (ws heap scratch out heap' : List ℕ) (at : ℕ) (t u : Term) (c n m : ℕ) (y : StepError) → normal_step e t ≡ some u → (x : RedexAt e ws [] c (put u [])) → n ≡ m
+    → Makes e scratch out n x.result (Err y) → StepsTo e heap at (length scratch) m t heap' (Err y)
+unmade e ws heap scratch out heap' at t u c n m NoRoom is x q w = (u, is, inr (omega (arith, w, result_size e ws u c x)))
+unmade e ws heap scratch out heap' at t u c n m NoStack is x q w = inr (u, is, omega (arith, w, result_size e ws u c x))
+unmade e ws heap scratch out heap' at t u c n m NotYet is x q w = w
 
 pub behind-length : (heap : List ℕ) (p end : ℕ) → end ≤ length heap → length (drop p (take end heap)) ≡ end - p
 behind-length heap p end l = omega (arith, length-drop p (take end heap), length-take-le end heap l)

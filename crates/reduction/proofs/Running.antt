@@ -1,5 +1,5 @@
 -- Reducing step by step in place: the state of the loop.
-use Rattle.std.proofs.Common.{◌≡◌, ℕ, suc, ◌+◌, ◌-◌, ◌*◌, ◌<◌, ◌≤◌, Bool, true, false, ◌⊎◌, List, [], ◌++◌, length, take, Some, sym, refl, ap, ◌∙◌, subst as tr, inl, inr, arith}
+use Rattle.std.proofs.Common.{◌≡◌, ℕ, suc, ◌+◌, ◌-◌, ◌*◌, ◌<◌, ◌≤◌, Bool, true, false, ◌⊎◌, List, [], ◌++◌, length, take, Some, Ok, Err, sym, refl, ap, ◌∙◌, subst as tr, inl, inr, arith}
 use mathlib.Core.Option.{some, none}
 use Rattle.theory.specs.Terms.{Term, size}
 use Rattle.theory.specs.Environment.{DataType, Env, data_at}
@@ -10,11 +10,14 @@ use Rattle.terms.specs.Writing.{Appends}
 use Rattle.terms.proofs.Nodes.{put-length}
 use Rattle.terms.proofs.Appending.{append_keeps}
 use Rattle.reduction.specs.Store.{EnvAt}
-use Rattle.reduction.specs.Stepping.{Stands, Ready, HasStep}
-use Rattle.reduction.specs.Aims.{is_none, meets, Met, Reduces, resting}
+use Rattle.reduction.specs.Stepping.{Stands, Ready, StepsTo, HasStep}
+use Rattle.reduction.specs.Aims.{is_none, meets, Met, Reduces, resting, reduce_error}
 use Rattle.reduction.specs.declared.reduce.Aim.{Aim}
 use Rattle.reduction.specs.declared.reduce.Aim.TheVariants.{ToNormal, ToPi, ToSort, ToDomain}
-use Rattle.reduction.specs.declared.reduce.Reduced.TheVariants.{Reached, UsedUp, NoRoom, NotYet}
+use Rattle.reduction.specs.declared.reduce.Reduced.TheVariants.{Reached}
+use Rattle.reduction.specs.declared.reduce.ReduceError.TheVariants.{UsedUp, NoRoom, NotYet}
+use Rattle.reduction.specs.declared.step.StepError.{StepError}
+use Rattle.reduction.specs.declared.step.StepError.TheVariants as stepping
 use Rattle.reduction.proofs.Standing.{stands_in}
 use Rattle.reduction.proofs.Staying.{stays_on}
 
@@ -120,19 +123,19 @@ module _ (index store first : List ℕ) (at end scratch₀ stack₀ : ℕ) (aim 
   written t s = record { ends = omega (arith, s.ends, put-length t []); words = s.words ∙ ap (λ (z : List ℕ). z ++ put t []) r.kept }
 
   pub run_reached : ((e : Env) (t : Term) → EnvAt index store e → Stands heap at t stop → meets e aim t ≡ true)
-      → (e : Env) (t : Term) → EnvAt index store e → Stands first at t end → Reduces e aim count most first at scratch₀ stack₀ t heap (Reached steps stop)
+      → (e : Env) (t : Term) → EnvAt index store e → Stands first at t end → Reduces e aim count most first at scratch₀ stack₀ t heap (Ok (Reached steps stop))
   run_reached m e t v s =
       let q = r.run e t v s in
       (q.term, record { n = q.taken; reaches = q.going.reaches; is = m e q.term v q.stands; before = q.going.before }, q.counted, r.within, written q.term q.stands)
 
-  pub run_short : stack < stop - at → (e : Env) (t : Term) → EnvAt index store e → Stands first at t end → Reduces e aim count most first at scratch₀ stack₀ t heap NoRoom
+  pub run_short : stack < stop - at → (e : Env) (t : Term) → EnvAt index store e → Stands first at t end → Reduces e aim count most first at scratch₀ stack₀ t heap (Err NoRoom)
   run_short l e t v s =
       let q = r.run e t v s in
       (q.term, q.taken, omega (arith, q.counted, r.within), q.going.reaches, inr (inr (omega (arith, q.stands.ends, r.stacked))))
 
   pub run_rests : (heap' : List ℕ) → ((e : Env) (t : Term) → EnvAt index store e → Stands heap at t stop → Met e aim t false)
       → ((e : Env) (t : Term) → EnvAt index store e → Stands heap at t stop → normal_step e t ≡ none) → take stop heap' ≡ take stop heap
-      → (e : Env) (t : Term) → EnvAt index store e → Stands first at t end → Reduces e aim count most first at scratch₀ stack₀ t heap' (resting aim steps stop)
+      → (e : Env) (t : Term) → EnvAt index store e → Stands first at t end → Reduces e aim count most first at scratch₀ stack₀ t heap' (Ok (resting aim steps stop))
   run_rests heap' m n k e t v s = go aim (r.run e t v s) (λ q. m e q.term v q.stands)
     where
       words : (u : Term) → Stands heap at u stop → Appends first at (put u []) heap' stop
@@ -142,7 +145,7 @@ module _ (index store first : List ℕ) (at end scratch₀ stack₀ : ℕ) (aim 
           → (u : Term) × (m : ℕ) × (steps ≡ count + m) × (steps ≤ most) × (normal_steps e m t ≡ some u) × (normal_step e u ≡ none) × (meets e b u ≡ false) × Appends first at (put u []) heap' stop
       rest b q p = (q.term, q.taken, q.counted, r.within, q.going.reaches, n e q.term v q.stands, p, words q.term q.stands)
 
-      go : (b : Aim) (q : Run e b t count steps heap at stop) → ((q : Run e b t count steps heap at stop) → Met e b q.term false) → Reduces e b count most first at scratch₀ stack₀ t heap' (resting b steps stop)
+      go : (b : Aim) (q : Run e b t count steps heap at stop) → ((q : Run e b t count steps heap at stop) → Met e b q.term false) → Reduces e b count most first at scratch₀ stack₀ t heap' (Ok (resting b steps stop))
       go ToNormal q p = (q.term, record { n = q.taken; reaches = q.going.reaches; is = ap is_none (n e q.term v q.stands); before = q.going.before }, q.counted, r.within, words q.term q.stands)
       go ToPi q p = rest ToPi q (elim (p q) [ inl z ↦ absurd (pi_not z) | inr z ↦ z ])
         where
@@ -158,14 +161,14 @@ module _ (index store first : List ℕ) (at end scratch₀ stack₀ : ℕ) (aim 
           domain_not z = let y : ◌≡◌ {A = ℕ} 0 1 = cc in omega arith
 
   pub run_full : steps < most → ((e : Env) (t : Term) → EnvAt index store e → Stands heap at t stop → (u : Term) × (normal_step e t ≡ some u) × ((length heap < at + 3 * size u) ⊎ (scratch < 3 * size u)))
-      → (e : Env) (t : Term) → EnvAt index store e → Stands first at t end → (heap' : List ℕ) → Reduces e aim count most first at scratch₀ stack₀ t heap' NoRoom
+      → (e : Env) (t : Term) → EnvAt index store e → Stands first at t end → (heap' : List ℕ) → Reduces e aim count most first at scratch₀ stack₀ t heap' (Err NoRoom)
   run_full l f e t v s heap' =
       let q = r.run e t v s in
       let (u, is, z) = f e q.term v q.stands in
       (u, suc q.taken, omega (arith, q.counted), rw q.going.reaches is, elim z [ inl a ↦ inl (omega (arith, a, r.same)) | inr b ↦ inr (inl (omega (arith, b, r.scratched))) ])
 
   pub run_shallow : steps < most → ((e : Env) (t : Term) → EnvAt index store e → Stands heap at t stop → (stack < 3 * size t) ⊎ ((u : Term) × (normal_step e t ≡ some u) × (stack < size u)))
-      → (e : Env) (t : Term) → EnvAt index store e → Stands first at t end → (heap' : List ℕ) → Reduces e aim count most first at scratch₀ stack₀ t heap' NoRoom
+      → (e : Env) (t : Term) → EnvAt index store e → Stands first at t end → (heap' : List ℕ) → Reduces e aim count most first at scratch₀ stack₀ t heap' (Err NoRoom)
   run_shallow l f e t v s heap' =
       let q = r.run e t v s in
       elim (f e q.term v q.stands) [
@@ -174,12 +177,26 @@ module _ (index store first : List ℕ) (at end scratch₀ stack₀ : ℕ) (aim 
       ]
 
   pub run_used : steps ≡ most → ((e : Env) (t : Term) → EnvAt index store e → Stands heap at t stop → (u : Term) × (normal_step e t ≡ some u))
-      → (e : Env) (t : Term) → EnvAt index store e → Stands first at t end → (heap' : List ℕ) → Reduces e aim count most first at scratch₀ stack₀ t heap' UsedUp
+      → (e : Env) (t : Term) → EnvAt index store e → Stands first at t end → (heap' : List ℕ) → Reduces e aim count most first at scratch₀ stack₀ t heap' (Err UsedUp)
   run_used l f e t v s heap' =
       let q = r.run e t v s in
       let (u, is) = f e q.term v q.stands in
       (u, suc q.taken, omega (arith, q.counted), rw q.going.reaches is)
 
   pub run_not : ((e : Env) (t : Term) → EnvAt index store e → Stands heap at t stop → (i : ℕ) × (k : DataType) × (data_at e i ≡ some k))
-      → (e : Env) (t : Term) → EnvAt index store e → Stands first at t end → (heap' : List ℕ) → Reduces e aim count most first at scratch₀ stack₀ t heap' NotYet
+      → (e : Env) (t : Term) → EnvAt index store e → Stands first at t end → (heap' : List ℕ) → Reduces e aim count most first at scratch₀ stack₀ t heap' (Err NotYet)
   run_not f e t v s heap' = let q = r.run e t v s in f e q.term v q.stands
+
+  -- A step that was not taken.
+  pub run_err : steps < most → (heap' : List ℕ) (k : ℕ) (x : StepError) → k ≡ stack → ((e : Env) (t : Term) → EnvAt index store e → Stands heap at t stop → StepsTo e heap at scratch k t heap' (Err x))
+      → (e : Env) (t : Term) → EnvAt index store e → Stands first at t end → Reduces e aim count most first at scratch₀ stack₀ t heap' (Err (reduce_error x))
+  run_err l heap' k stepping.NoRoom p f e t v s = run_full l f e t v s heap'
+  run_err l heap' k stepping.NoStack p f e t v s = run_shallow l (λ e t v s. shorter e t k stack p (f e t v s)) e t v s heap'
+  run_err l heap' k stepping.NotYet p f e t v s = run_not f e t v s heap'
+
+  -- The stack is too short to find out about one step more.
+  pub run_blind : (k : ℕ) → k ≡ stack → ((e : Env) (t : Term) → EnvAt index store e → Stands heap at t stop → k < 3 * size t)
+      → (e : Env) (t : Term) → EnvAt index store e → Stands first at t end → (heap' : List ℕ) → Reduces e aim count most first at scratch₀ stack₀ t heap' (Err NoRoom)
+  run_blind k p f e t v s heap' =
+      let q = r.run e t v s in
+      (q.term, q.taken, omega (arith, q.counted, r.within), q.going.reaches, inr (inr (omega (arith, f e q.term v q.stands, r.stacked))))

@@ -1,5 +1,5 @@
 -- The words of a spine: so many applications, the head, the arguments in a row. What a redex contracts to, in words.
-use Rattle.std.proofs.Common.{◌≡◌, ℕ, zero, suc, ◌+◌, ◌*◌, ◌≤◌, List, [], ◌∷◌, ◌++◌, length, drop, sym, refl, ap, ◌∙◌, subst as tr, arith, length-drop}
+use Rattle.std.proofs.Common.{◌≡◌, ℕ, zero, suc, ◌+◌, ◌*◌, ◌≤◌, List, [], ◌∷◌, ◌++◌, length, drop, Some, None, Option, Err, ok_or, sym, refl, ap, ◌∙◌, arith, length-drop}
 use mathlib.Core.Option.{some}
 use lib.ListN.{get_elem?}
 use Rattle.std.proofs.lemmas.List.{drop-drop, drop_at}
@@ -13,11 +13,11 @@ use Rattle.terms.specs.declared.sign.Sign.{Sign}
 use Rattle.terms.specs.declared.sign.Sign.TheVariants.{Lam, App, Def, Along}
 use Rattle.terms.proofs.Nodes.{puts-length, length-sizes}
 use Rattle.reduction.specs.Spines.{uses, head_term, head_of, top_step}
-use Rattle.terms.specs.Copying.{Copies}
-use Rattle.terms.specs.declared.copy.Copied.{Copied}
-use Rattle.terms.specs.declared.copy.Copied.TheVariants as copied
-use Rattle.reduction.specs.declared.make.Made.{Made}
-use Rattle.reduction.specs.Stepping.{RowAt, AlongAt, Makes, made_of}
+use Rattle.terms.specs.Copying.{Fits, Copies}
+use Rattle.terms.specs.declared.copy.WriteError.{WriteError}
+use Rattle.terms.specs.declared.copy.WriteError.TheVariants as writing
+use Rattle.reduction.specs.declared.step.StepError.TheVariants.{NoRoom}
+use Rattle.reduction.specs.Stepping.{RowAt, AlongAt, Makes, step_error}
 use Rattle.reduction.proofs.Spreading.{twos, length_twos, spine_head_is, spine-length}
 
 spelled : (t : Term) (as₁ : List Term) (r : List ℕ) → put t (puts as₁ r) ≡ twos (uses t) ++ put (head_term t) (puts (spine t as₁).args r)
@@ -145,10 +145,11 @@ rec_redex e f a u s s' p n q m c = contract-some e f a c (λ x y is _. absurd (n
 pub beta_result : (e : Env) (f a x y : Term) {u : Term} → f ≡ lam x y → contract e f a ≡ some u → subst 0 a y ≡ u
 beta_result e f a x y p s = some_inj (sym (ap (λ z. contract e z a) p) ∙ s)
 
-pub copies_make : (e : Env) (before after : List ℕ) (n : ℕ) (v : Term) (r : Copied) (m : Made) → m ≡ made_of r → Copies before 0 after n v r → Makes e before after n v m
-copies_make e before after n v r m p x = tr (Makes e before after n v) (sym p) (go r x)
-  where
-    go : (r : Copied) → Copies before 0 after n v r → Makes e before after n v (made_of r)
-    go (copied.Done end) x = x
-    go copied.NoRoom x = omega arith
-    go copied.NoStack x = x
+-- A term that was written, or not.
+pub copies_err : (e : Env) (before after : List ℕ) (n : ℕ) (v : Term) (x : WriteError) → Copies before 0 after n v (Err x) → Makes e before after n v (Err (step_error x))
+copies_err e before after n v writing.NoRoom x = omega arith
+copies_err e before after n v writing.NoStack x = x
+
+pub fits_make : (e : Env) (before after : List ℕ) (n : ℕ) (v : Term) (o : Option ℕ) → Fits before 0 after v o → Makes e before after n v (ok_or o NoRoom)
+fits_make e before after n v (Some end) x = x
+fits_make e before after n v None x = omega arith

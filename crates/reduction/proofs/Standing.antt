@@ -1,10 +1,11 @@
 -- A term that stands from a place to its end.
-use Rattle.std.proofs.Common.{◌≡◌, ℕ, ◌-◌, ◌≤◌, List, [], ◌++◌, length, take, drop, sym, ap, ◌∙◌, append_assoc, arith, length-append, length-take}
+use Rattle.std.proofs.Common.{◌≡◌, ℕ, ◌-◌, ◌≤◌, List, [], ◌++◌, length, take, drop, Some, None, Option, is_some, sym, ap, ◌∙◌, append_assoc, arith, length-append, length-take}
 use Rattle.std.proofs.lemmas.List.{take-append-drop, length-take-le}
 use Rattle.theory.specs.Terms.{Term}
+use Rattle.theory.specs.Environment.{Env}
 use Rattle.terms.specs.Words.{put}
 use Rattle.terms.proofs.Nodes.{put_append, put-length, size-parts}
-use Rattle.reduction.specs.Stepping.{Stands, Ready, Findable}
+use Rattle.reduction.specs.Stepping.{Stands, Ready, Findable, FindsStep, HasStep}
 
 pub stands_in : (ws : List ℕ) (at : ℕ) (t : Term) (end : ℕ) → Stands ws at t end → end ≤ length ws
 stands_in ws at t end s = omega (arith, s.ends, ap length s.words, length-take end ws, length-take at ws, length-append (take at ws) (put t []), put-length t [], size-parts t)
@@ -28,3 +29,8 @@ findable index store heap at end stack r l =
       placed = stands_front heap at r.term end r.stands;
       room = omega (arith, r.stands.ends);
     }
+
+-- There is a step if its place was found.
+pub step_found : (e : Env) (ws pre : List ℕ) (t : Term) (rest : List ℕ) (n : ℕ) (o : Option ℕ) → FindsStep e ws pre t rest o → HasStep e n t (Some (is_some o))
+step_found e ws pre t rest n None x = x
+step_found e ws pre t rest n (Some c) (u, is, _) = (u, is)

@@ -1,7 +1,9 @@
 -- What the words of the table and the store say of the entry with a number.
-use Rattle.std.proofs.Common.{◌≡◌, ℕ, zero, suc, ◌+◌, ◌*◌, ◌/◌, ◌%◌, ◌<◌, ◌≤◌, List, [], ◌∷◌, length, get_or, drop, sym, refl, ap, ◌∙◌, subst as tr, ap₂, arith, length-drop}
+use Rattle.std.proofs.Common.{◌≡◌, ℕ, zero, suc, ◌+◌, ◌*◌, ◌/◌, ◌%◌, ◌<◌, ◌≤◌, List, [], ◌∷◌, length, get_or, drop, Some, Option as Maybe, inl, inr, sym, refl, ap, ◌∙◌, subst as tr, ap₂, arith, length-drop}
 use mathlib.Core.Option.{Option, some, none}
 use lib.ListN.{get_elem?}
+use Rattle.std.proofs.lemmas.Bool.{cases_lt}
+use Rattle.std.proofs.lemmas.Grind.{not_there}
 use Rattle.std.proofs.lemmas.List.{get_or-drop, drop-drop}
 use Rattle.theory.specs.Terms.{size, option}
 use Rattle.theory.specs.Environment.{Constructor, DataType, Entry, defined, assumed, inductive, Env, entry_data, data_at}
@@ -10,7 +12,7 @@ use Rattle.terms.specs.Words.{put, puts, At}
 use Rattle.terms.proofs.Nodes.{join, put-length}
 use Rattle.terms.proofs.Places.{Three, three, at_behind}
 use Rattle.reduction.specs.Store.{put_counts, put_fields, put_entry, place, EntryAt, EnvAt, Stored}
-use Rattle.reduction.specs.Lookup.{Finds}
+use Rattle.reduction.specs.Lookup.{Finds, FindsPlace}
 use Rattle.reduction.specs.declared.store.Found.{Found}
 use Rattle.reduction.specs.declared.store.Found.TheVariants.{Definition, Axiom, Inductive}
 
@@ -69,11 +71,11 @@ pub entry_three : (store : List ℕ) (p : ℕ) (d : Entry) (x : EntryAt store p 
 entry_three store p d x = three store p _ _ _ _ (x.stands ∙ entry_words d x.rest)
 
 -- What was found.
-pub found_definition : (store : List ℕ) (p : ℕ) (d : Entry) → EntryAt store p d → get_or store p 0 ≡ 0 → Finds store (some d) (Definition (p + 3) (p + 3 + (get_or store (p + 1) 0 + 4294967296 * get_or store (p + 1 + 1) 0)))
+pub found_definition : (store : List ℕ) (p : ℕ) (d : Entry) → EntryAt store p d → get_or store p 0 ≡ 0 → Finds store (some d) (Some (Definition (p + 3) (p + 3 + (get_or store (p + 1) 0 + 4294967296 * get_or store (p + 2) 0))))
 found_definition store p (defined t a) x m =
     let h = entry_three store p (defined t a) x in
     let a_at : At store (p + 3) a (put t x.rest) = record { stands = h.behind } in
-    let n : get_or store (p + 1) 0 + 4294967296 * get_or store (p + 1 + 1) 0 ≡ 3 * size a = ap₂ (λ u v. u + 4294967296 * v) h.second (ap (λ k. get_or store k 0) (let z : p + 1 + 1 ≡ p + 2 = omega arith in z) ∙ h.third) ∙ join (3 * size a) in (
+    let n : get_or store (p + 1) 0 + 4294967296 * get_or store (p + 2) 0 ≡ 3 * size a = ap₂ (λ u v. u + 4294967296 * v) h.second h.third ∙ join (3 * size a) in (
       t,
       a,
       refl,
@@ -83,74 +85,56 @@ found_definition store p (defined t a) x m =
 found_definition store p (assumed a) x m = absurd (omega (arith, (entry_three store p (assumed a) x).first))
 found_definition store p (inductive k) x m = absurd (omega (arith, (entry_three store p (inductive k) x).first))
 
-pub found_axiom : (store : List ℕ) (p : ℕ) (d : Entry) → EntryAt store p d → get_or store p 0 ≡ 1 → Finds store (some d) (Axiom (p + 3))
+pub found_axiom : (store : List ℕ) (p : ℕ) (d : Entry) → EntryAt store p d → get_or store p 0 ≡ 1 → Finds store (some d) (Some (Axiom (p + 3)))
 found_axiom store p (assumed a) x m = (a, refl, record { rest = x.rest; at = record { stands = (entry_three store p (assumed a) x).behind } })
 found_axiom store p (defined t a) x m = absurd (omega (arith, (entry_three store p (defined t a) x).first))
 found_axiom store p (inductive k) x m = absurd (omega (arith, (entry_three store p (inductive k) x).first))
 
-pub found_data : (store : List ℕ) (p : ℕ) (d : Entry) → EntryAt store p d → (get_or store p 0 ≡ 0 → ⊥) → (get_or store p 0 ≡ 1 → ⊥) → Finds store (some d) Inductive
+pub found_data : (store : List ℕ) (p : ℕ) (d : Entry) → EntryAt store p d → (get_or store p 0 ≡ 0 → ⊥) → (get_or store p 0 ≡ 1 → ⊥) → Finds store (some d) (Some (Inductive p))
 found_data store p (defined t a) x m n = absurd (m (entry_three store p (defined t a) x).first)
 found_data store p (assumed a) x m n = absurd (n (entry_three store p (assumed a) x).first)
-found_data store p (inductive k) x m n = (k, refl)
+found_data store p (inductive k) x m n = (k, refl, x)
+
+-- An order that holds if a fact does, of which it is only known that it has a proof.
+order_known : {P : Type 0} (a b : ℕ) → ∥ P ∥₁ → (P → a ≤ b) → a ≤ b
+order_known a b t f = elim (cases_lt b a) [ inl l ↦ absurd (not_there t (λ x. let z = f x in omega arith)) | inr l ↦ l ]
 
 -- The words of an entry lie within the store.
-pub room : (index store : List ℕ) (i p : ℕ) → Stored index store → 2 * i + 2 ≤ length index → p ≡ place index i → p + 3 ≤ length store
-room index store i p s l q =
-    let x = entered index store s.env i s.at l in
-    tr (λ k. k + 3 ≤ length store) (sym q) (entry_three store (place index i) x.entry x.at).within
+pub room : (index store : List ℕ) (i p : ℕ) → ∥ Stored index store ∥₁ → 2 * i + 2 ≤ length index → p ≡ place index i → p + 3 ≤ length store
+room index store i p s l q = order_known (p + 3) (length store) s λ k.
+    let x = entered index store k.env i k.at l in
+    tr (λ n. n + 3 ≤ length store) (sym q) (entry_three store (place index i) x.entry x.at).within
 
-body_room : (store : List ℕ) (p : ℕ) (d : Entry) → EntryAt store p d → get_or store p 0 ≡ 0 → p + 3 + (get_or store (p + 1) 0 + 4294967296 * get_or store (p + 1 + 1) 0) ≤ length store
+body_room : (store : List ℕ) (p : ℕ) (d : Entry) → EntryAt store p d → get_or store p 0 ≡ 0 → p + 3 + (get_or store (p + 1) 0 + 4294967296 * get_or store (p + 2) 0) ≤ length store
 body_room store p (defined t a) x m =
     let h = entry_three store p (defined t a) x in
-    let n : get_or store (p + 1) 0 + 4294967296 * get_or store (p + 1 + 1) 0 ≡ 3 * size a = ap₂ (λ u v. u + 4294967296 * v) h.second (ap (λ k. get_or store k 0) (let z : p + 1 + 1 ≡ p + 2 = omega arith in z) ∙ h.third) ∙ join (3 * size a) in
+    let n : get_or store (p + 1) 0 + 4294967296 * get_or store (p + 2) 0 ≡ 3 * size a = ap₂ (λ u v. u + 4294967296 * v) h.second h.third ∙ join (3 * size a) in
     omega (arith, n, h.within, ap length h.behind, length-drop (p + 3) store, put-length a (put t x.rest))
 body_room store p (assumed a) x m = absurd (omega (arith, (entry_three store p (assumed a) x).first))
 body_room store p (inductive k) x m = absurd (omega (arith, (entry_three store p (inductive k) x).first))
 
-pub room_body : (index store : List ℕ) (i p : ℕ) → Stored index store → 2 * i + 2 ≤ length index → p ≡ place index i → get_or store p 0 ≡ 0
-    → p + 3 + (get_or store (p + 1) 0 + 4294967296 * get_or store (p + 1 + 1) 0) ≤ length store
-room_body index store i p s l q m =
-    let x = entered index store s.env i s.at l in
-    body_room store p x.entry (tr (λ k. EntryAt store k x.entry) (sym q) x.at) m
+pub room_body : (index store : List ℕ) (i p : ℕ) → ∥ Stored index store ∥₁ → 2 * i + 2 ≤ length index → p ≡ place index i → get_or store p 0 ≡ 0
+    → p + 3 + (get_or store (p + 1) 0 + 4294967296 * get_or store (p + 2) 0) ≤ length store
+room_body index store i p s l q m = order_known _ (length store) s λ k.
+    let x = entered index store k.env i k.at l in
+    body_room store p x.entry (tr (λ n. EntryAt store n x.entry) (sym q) x.at) m
 
 -- The answers.
-some_finds : (store : List ℕ) (o : Option Entry) (d : Entry) (f : Found) → o ≡ some d → Finds store (some d) f → Finds store o f
+some_finds : (store : List ℕ) (o : Option Entry) (d : Entry) (f : Maybe Found) → o ≡ some d → Finds store (some d) f → Finds store o f
 some_finds store o d f p x = tr (λ z. Finds store z f) (sym p) x
 
-pub finds_at : (index store : List ℕ) (e : Env) (i p : ℕ) (f : Found) → EnvAt index store e → 2 * i + 2 ≤ length index → p ≡ place index i
+pub finds_at : (index store : List ℕ) (e : Env) (i p : ℕ) (f : Maybe Found) → EnvAt index store e → 2 * i + 2 ≤ length index → p ≡ place index i
     → ((d : Entry) → EntryAt store p d → Finds store (some d) f) → Finds store (get_elem? e i) f
 finds_at index store e i p f v l q k =
     let x = entered index store e i v l in
     some_finds store (get_elem? e i) x.entry f x.is (k x.entry (tr (λ z. EntryAt store z x.entry) (sym q) x.at))
 
 -- The data type with a number.
-data_some : (e : Env) (i : ℕ) (d : Entry) → get_elem? e i ≡ some d → data_at e i ≡ entry_data d
-data_some e i d p = ap (λ (o : Option Entry). option o none entry_data) p
+pub no_entry : (e : Env) (i : ℕ) → get_elem? e i ≡ none → data_at e i ≡ none
+no_entry e i q = ap (λ (o : Option Entry). option o none entry_data) q
 
-pub no_data : (index store : List ℕ) (e : Env) (i : ℕ) → EnvAt index store e → length index < 2 * i + 2 → data_at e i ≡ none
-no_data index store e i v l = ap (λ (o : Option Entry). option o none entry_data) (beyond index store e i v l)
-
-other_entry : (store : List ℕ) (p : ℕ) (d : Entry) → EntryAt store p d → (get_or store p 0 ≡ 2 → ⊥) → entry_data d ≡ none
-other_entry store p (defined t a) x m = refl
-other_entry store p (assumed a) x m = refl
-other_entry store p (inductive k) x m = absurd (m (entry_three store p (inductive k) x).first)
-
-pub other_data : (index store : List ℕ) (e : Env) (i p : ℕ) → EnvAt index store e → 2 * i + 2 ≤ length index → p ≡ place index i → (get_or store p 0 ≡ 2 → ⊥) → data_at e i ≡ none
-other_data index store e i p v l q m =
-    let x = entered index store e i v l in
-    data_some e i x.entry x.is ∙ other_entry store p x.entry (tr (λ z. EntryAt store z x.entry) (sym q) x.at) m
-
-data_entry : (store : List ℕ) (p : ℕ) (d : Entry) → EntryAt store p d → get_or store p 0 ≡ 2 → (k : DataType) × (entry_data d ≡ some k) × EntryAt store p (inductive k)
-data_entry store p (defined t a) x m = absurd (omega (arith, (entry_three store p (defined t a) x).first))
-data_entry store p (assumed a) x m = absurd (omega (arith, (entry_three store p (assumed a) x).first))
-data_entry store p (inductive k) x m = (k, refl, x)
-
-pub some_data : (index store : List ℕ) (e : Env) (i p : ℕ) → EnvAt index store e → 2 * i + 2 ≤ length index → p ≡ place index i → get_or store p 0 ≡ 2
-    → (k : DataType) × (data_at e i ≡ some k) × EntryAt store p (inductive k)
-some_data index store e i p v l q m =
-    let x = entered index store e i v l in
-    let (k, r, y) = data_entry store p x.entry (tr (λ z. EntryAt store z x.entry) (sym q) x.at) m in
-    (k, data_some e i x.entry x.is ∙ r, y)
+pub some_data : (e : Env) (i : ℕ) (store : List ℕ) (p : ℕ) → Finds store (get_elem? e i) (Some (Inductive p)) → FindsPlace store (data_at e i) (Some p)
+some_data e i store p (k, q, x) = (k, ap (λ (o : Option Entry). option o none entry_data) q, x)
 
 -- The words of a data type: four numbers, and two for each constructor.
 pub record DataWords (store : List ℕ) (p : ℕ) (k : DataType) : Type 0 where
@@ -188,8 +172,8 @@ data_words store p k x =
       recs = λ i c q. ap (λ n. get_or store n 0) (let z : p + 4 + 2 * i + 1 ≡ p + 4 + (2 * i + 1) = omega arith in z) ∙ (sym (get_or-drop (p + 4) store (2 * i + 1) 0) ∙ (ap (λ w. get_or w (2 * i + 1) 0) b ∙ (counts_at k.cons r i c q).1));
     }
 
-pub data_room : (index store : List ℕ) (i p : ℕ) → Stored index store → 2 * i + 2 ≤ length index → p ≡ place index i → get_or store p 0 ≡ 2 → p + 4 + 2 * get_or store (p + 3) 0 ≤ length store
-data_room index store i p s l q m =
-    let (k, _, x) = some_data index store s.env i p s.at l q m in
-    let w = data_words store p k x in
+pub data_room : (index store : List ℕ) (p : ℕ) (o : Env → Option DataType) → ∥ Stored index store ∥₁ → ((e : Env) → EnvAt index store e → FindsPlace store (o e) (Some p)) → p + 4 + 2 * get_or store (p + 3) 0 ≤ length store
+data_room index store p o s f = order_known _ (length store) s λ k.
+    let (d, _, x) = f k.env k.at in
+    let w = data_words store p d x in
     omega (arith, w.within, w.cons)

@@ -8,7 +8,7 @@ use Rattle.terms.specs.Words.{At}
 use Rattle.terms.specs.Writing.{Appends}
 use Rattle.reduction.specs.Store.{EntryAt, EnvAt}
 use Rattle.reduction.specs.declared.store.Found.{Found}
-use Rattle.reduction.specs.declared.store.Found.TheVariants.{Missing, Definition, Axiom, Inductive}
+use Rattle.reduction.specs.declared.store.Found.TheVariants.{Definition, Axiom, Inductive}
 use Rattle.reduction.specs.declared.store.DataNumbers.{DataNumbers}
 use Rattle.reduction.specs.declared.store.ConNumbers.{ConNumbers}
 
@@ -17,12 +17,12 @@ pub record StandsAt (store : List ℕ) (p : ℕ) (t : Term) : Type 0 where
   pub rest : List ℕ
   pub at : At store p t rest
 
--- What was found is the entry: where its type and its body stand.
-abbrev pub Finds : List ℕ → Option Entry → Found → Type 0
-Finds store o Missing = o ≡ none
-Finds store o (Definition «type» body) = (t a : Term) × (o ≡ some (defined t a)) × StandsAt store «type» a × StandsAt store body t
-Finds store o (Axiom «type») = (a : Term) × (o ≡ some (assumed a)) × StandsAt store «type» a
-Finds store o Inductive = (k : DataType) × (o ≡ some (inductive k))
+-- What was found is the entry: where its type and its body stand, or the words of a data type.
+abbrev pub Finds : List ℕ → Option Entry → Maybe Found → Type 0
+Finds store o None = o ≡ none
+Finds store o (Some (Definition «type» body)) = (t a : Term) × (o ≡ some (defined t a)) × StandsAt store «type» a × StandsAt store body t
+Finds store o (Some (Axiom «type»)) = (a : Term) × (o ≡ some (assumed a)) × StandsAt store «type» a
+Finds store o (Some (Inductive p)) = (k : DataType) × (o ≡ some (inductive k)) × EntryAt store p (inductive k)
 
 -- The place of a data type's words.
 abbrev pub FindsPlace : List ℕ → Option DataType → Maybe ℕ → Type 0

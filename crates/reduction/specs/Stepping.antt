@@ -1,22 +1,20 @@
 -- What one normal-order step in place promises.
-use Rattle.std.specs.Prelude.{◌≡◌, ℕ, ◌+◌, ◌*◌, ◌^◌, ◌<◌, ◌≤◌, Bool, true, false, ◌⊎◌, List, [], ◌++◌, length, take, drop, Some, None, Option as Maybe}
+use Rattle.std.specs.Prelude.{◌≡◌, ℕ, ◌+◌, ◌*◌, ◌^◌, ◌<◌, ◌≤◌, Bool, true, false, ◌⊎◌, List, [], ◌++◌, length, take, drop, Some, None, Option as Maybe, Ok, Err, Result}
 use Rattle.std.proofs.Math.Option.{some, none}
 use Rattle.std.proofs.Math.ListN.{get_elem?}
-use Rattle.theory.specs.Terms.{h_along, Term, lam, app, size}
+use Rattle.theory.specs.Terms.{h_def, h_along, Term, lam, app, size}
 use Rattle.theory.specs.Environment.{DataType, Entry, Env, data_at}
-use Rattle.theory.specs.Reduction.{contract, normal_step, normal_steps}
+use Rattle.theory.specs.Reduction.{contract, delta, normal_step, normal_steps}
 use Rattle.theory.proofs.Closed.{Scoped, ClosedEntry}
 use Rattle.terms.specs.Words.{put, puts, number, At, Small}
 use Rattle.terms.specs.Writing.{Appends}
 use Rattle.reduction.specs.Store.{EnvAt}
 use Rattle.reduction.specs.Spines.{top_step, head_term, head_of}
 use Rattle.reduction.specs.declared.find.Frame.{Frame}
-use Rattle.terms.specs.declared.copy.Copied.{Copied}
-use Rattle.terms.specs.declared.copy.Copied.TheVariants as copied
-use Rattle.reduction.specs.declared.make.Made.{Made}
-use Rattle.reduction.specs.declared.make.Made.TheVariants as made
-use Rattle.reduction.specs.declared.step.Stepped.{Stepped}
-use Rattle.reduction.specs.declared.step.Stepped.TheVariants.{Normal, Done, NoRoom, NoStack, NotYet}
+use Rattle.terms.specs.declared.copy.WriteError.{WriteError}
+use Rattle.terms.specs.declared.copy.WriteError.TheVariants as writing
+use Rattle.reduction.specs.declared.step.StepError.{StepError}
+use Rattle.reduction.specs.declared.step.StepError.TheVariants.{NoRoom, NoStack, NotYet}
 
 -- The term t stands from at to end.
 pub record Stands (ws : List ℕ) (at : ℕ) (t : Term) (end : ℕ) : Type 0 where
@@ -44,12 +42,12 @@ pub record Ready (index store heap : List ℕ) (at end : ℕ) : Type 0 where
 
 -- The step: there is none; the term stands stepped; the heap or the scratch words are too few for the stepped term; the stack is too short for
 -- one of the two; or it is a recursor's, which is not coded yet: then the environment has a data type.
-abbrev pub StepsTo : Env → List ℕ → ℕ → ℕ → ℕ → Term → List ℕ → Stepped → Type 0
-StepsTo e heap at scratch stack t after Normal = (normal_step e t ≡ none) × Appends heap at (put t []) after (at + 3 * size t)
-StepsTo e heap at scratch stack t after (Done end) = (u : Term) × (normal_step e t ≡ some u) × Appends heap at (put u []) after end
-StepsTo e heap at scratch stack t after NoRoom = (u : Term) × (normal_step e t ≡ some u) × ((length heap < at + 3 * size u) ⊎ (scratch < 3 * size u))
-StepsTo e heap at scratch stack t after NoStack = (stack < 3 * size t) ⊎ ((u : Term) × (normal_step e t ≡ some u) × (stack < size u))
-StepsTo e heap at scratch stack t after NotYet = (i : ℕ) × (k : DataType) × (data_at e i ≡ some k)
+abbrev pub StepsTo : Env → List ℕ → ℕ → ℕ → ℕ → Term → List ℕ → Result (Maybe ℕ) StepError → Type 0
+StepsTo e heap at scratch stack t after (Ok None) = (normal_step e t ≡ none) × Appends heap at (put t []) after (at + 3 * size t)
+StepsTo e heap at scratch stack t after (Ok (Some end)) = (u : Term) × (normal_step e t ≡ some u) × Appends heap at (put u []) after end
+StepsTo e heap at scratch stack t after (Err NoRoom) = (u : Term) × (normal_step e t ≡ some u) × ((length heap < at + 3 * size u) ⊎ (scratch < 3 * size u))
+StepsTo e heap at scratch stack t after (Err NoStack) = (stack < 3 * size t) ⊎ ((u : Term) × (normal_step e t ≡ some u) × (stack < size u))
+StepsTo e heap at scratch stack t after (Err NotYet) = (i : ℕ) × (k : DataType) × (data_at e i ≡ some k)
 
 -- Is there a step? None: the stack is too short to find out.
 abbrev pub HasStep : Env → ℕ → Term → Maybe Bool → Type 0
@@ -109,6 +107,13 @@ pub record BetaAt (ws : List ℕ) (at : ℕ) : Type 0 where
   pub here : At ws at (app (lam domain body) argument) rest
   pub small : Small (2 ^ 63) argument
 
+-- A number is a definition's.
+pub record DeltaAt (index store : List ℕ) (number : ℕ) : Type 0 where
+  pub env : Env
+  pub result : Term
+  pub env_at : EnvAt index store env
+  pub unfolds : delta env (h_def number) ≡ some result
+
 -- A row of at least so many terms stands at a place.
 pub record RowAt (ws : List ℕ) (at count : ℕ) : Type 0 where
   pub terms : List Term
@@ -117,16 +122,16 @@ pub record RowAt (ws : List ℕ) (at count : ℕ) : Type 0 where
   pub enough : count ≤ length terms
 
 -- What a redex contracts to is written into other words; or it is a recursor's.
-abbrev pub Makes : Env → List ℕ → List ℕ → ℕ → Term → Made → Type 0
-Makes e before after stack v (made.Done end) = Appends before 0 (put v []) after end
-Makes e before after stack v made.NoRoom = length before < 3 * size v
-Makes e before after stack v made.NoStack = stack < size v
-Makes e before after stack v made.NotYet = (i : ℕ) × (k : DataType) × (data_at e i ≡ some k)
+abbrev pub Makes : Env → List ℕ → List ℕ → ℕ → Term → Result ℕ StepError → Type 0
+Makes e before after stack v (Ok end) = Appends before 0 (put v []) after end
+Makes e before after stack v (Err NoRoom) = length before < 3 * size v
+Makes e before after stack v (Err NoStack) = stack < size v
+Makes e before after stack v (Err NotYet) = (i : ℕ) × (k : DataType) × (data_at e i ≡ some k)
 
-abbrev pub made_of : Copied → Made
-made_of (copied.Done end) = made.Done end
-made_of copied.NoRoom = made.NoRoom
-made_of copied.NoStack = made.NoStack
+-- Why there is no step, where a term was not written.
+abbrev pub step_error : WriteError → StepError
+step_error writing.NoRoom = NoRoom
+step_error writing.NoStack = NoStack
 
 -- A redex with small indices stands at a place.
 pub record Contractible (index store ws : List ℕ) (at : ℕ) : Type 0 where

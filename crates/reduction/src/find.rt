@@ -7,6 +7,7 @@ ghost use Rattle.reduction.specs.Store.{EnvAt};
 ghost use Rattle.reduction.specs.Stepping.{frame, FramePushed, IsFrame, Findable, FindsStep};
 
 use crate::spine::{Look, fires, look_at};
+use crate::store::Environment;
 use terms::number::{number_at, push_number};
 use terms::walk::end_of;
 
@@ -44,14 +45,13 @@ fn frame_at(stack: &[u32], free: usize) -> Frame
 // The place of the redex that the normal-order step of the term at `at` contracts. What is found in the arguments before one that has to be
 // looked at is remembered on the stack, and counts only if nothing is found there.
 pub fn find(
-    index: &[u32],
-    store: &[u32],
+    env: Environment,
     heap: &[u32],
     at: usize,
     stack: &mut [u32],
 ) -> Option<usize>
-    requires { Findable index.now store.now heap.now at (length stack.old) }
-    ensures { (e : Env) (front rest : List ℕ) (t : Term) → EnvAt index.now store.now e → heap.now ≡ front ++ put t rest → length front ≡ at → FindsStep e heap.now front t rest result }
+    requires { Findable env.index.now env.store.now heap.now at (length stack.old) }
+    ensures { (e : Env) (front rest : List ℕ) (t : Term) → EnvAt env.entry.index.now env.entry.store.now e → heap.now ≡ front ++ put t rest → length front ≡ at → FindsStep e heap.now front t rest result }
 {
     let mut place = at;
     let mut before: usize = 1;
@@ -71,7 +71,7 @@ pub fn find(
                 }
                 continue 'pass;
             }
-            if fires(index, store, heap, frame.place, place) {
+            if fires(env, heap, frame.place, place) {
                 before = frame.behind + 1;
                 free += 6;
                 hit = Some(frame.place);
@@ -95,7 +95,7 @@ pub fn find(
             before -= 1;
             continue 'pass;
         }
-        match look_at(index, store, heap, place) {
+        match look_at(env, heap, place) {
             Look::Leaf => {
                 place += 3;
                 before -= 1;

@@ -6,28 +6,25 @@ ghost use Rattle.theory.specs.Environment.{Env};
 ghost use Rattle.theory.specs.Reduction.{contract, delta};
 ghost use Rattle.reduction.specs.Spines.{head_term, head_of, top_step};
 ghost use Rattle.terms.specs.Words.{At, puts};
-ghost use Rattle.terms.specs.Copying.{Copies};
-ghost use Rattle.reduction.specs.Store.{EnvAt, Stored};
-ghost use Rattle.reduction.specs.Stepping.{BetaAt, RowAt, AlongAt, AppRedex, Contractible, Makes, made_of};
+ghost use Rattle.terms.specs.Copying.{Fits, Copies};
+ghost use Rattle.reduction.specs.Store.{EnvAt};
+ghost use Rattle.reduction.specs.Stepping.{BetaAt, DeltaAt, RowAt, AlongAt, AppRedex, Contractible, Makes};
 
 use crate::spine::count_uses;
-use crate::store::{Found, find_entry};
-use terms::copy::{Copied, copy_term};
+use crate::step::StepError;
+use crate::store::{Environment, Found};
+use terms::copy::{WriteError, copy_term};
 use terms::sign::{Sign, sign_at};
 use terms::subst::subst;
 use terms::walk::end_of;
 
-// What came of it: where the words end; there is no room; the stack is too short; the redex is a recursor's, which is not coded yet.
-#[derive(Clone, Copy)]
-pub enum Made {
-    Done(usize),
-    NoRoom,
-    NoStack,
-    NotYet,
-}
-
 // A function on its argument: its body with the argument put in.
-fn make_beta(words: &[u32], at: usize, out: &mut [u32], stack: &mut [u32]) -> Copied
+fn make_beta(
+    words: &[u32],
+    at: usize,
+    out: &mut [u32],
+    stack: &mut [u32],
+) -> Result<usize, WriteError>
     requires { BetaAt words.now at }
     ensures { (b c a : Term) (rest : List ℕ) → At words.now at (app (lam b c) a) rest → Copies out.old 0 out.new (length stack.old) (subst_term 0 a c) result }
 {
@@ -37,22 +34,13 @@ fn make_beta(words: &[u32], at: usize, out: &mut [u32], stack: &mut [u32]) -> Co
 }
 
 // A defined name: its body.
-fn make_delta(
-    index: &[u32],
-    store: &[u32],
-    number: u32,
-    out: &mut [u32],
-    stack: &mut [u32],
-) -> Copied
-    requires { Stored index.now store.now }
-    ensures { (e : Env) (u : Term) → EnvAt index.now store.now e → delta e (h_def number) ≡ some u → Copies out.old 0 out.new (length stack.old) u result }
+fn make_delta(env: Environment, number: u32, out: &mut [u32]) -> Option<usize>
+    requires { DeltaAt env.index.now env.store.now number }
+    ensures { (e : Env) (u : Term) → EnvAt env.entry.index.now env.entry.store.now e → delta e (h_def number) ≡ some u → Fits out.old 0 out.new u result }
 {
-    let Found::Definition(_, body) = find_entry(index, store, number) else {
-        return Copied::NoStack;
-    };
-    match copy_term(store, body, out, 0) {
-        Some(end) => Copied::Done(end),
-        None => Copied::NoRoom,
+    match env.find_entry(number)? {
+        Found::Definition(_, body) => copy_term(env.store, body, out, 0),
+        Found::Axiom(_) | Found::Inductive(_) => None,
     }
 }
 
@@ -69,58 +57,49 @@ fn skip_terms(words: &[u32], at: usize, count: usize) -> usize
 }
 
 // An elimination on reflexivity: its fourth argument.
-fn make_along(words: &[u32], at: usize, out: &mut [u32], stack: &mut [u32]) -> Copied
+fn make_along(words: &[u32], at: usize, out: &mut [u32]) -> Option<usize>
     requires { AlongAt words.now at }
-    ensures { (e : Env) (f a u : Term) (i j : ℕ) (rest : List ℕ) → At words.now at (app f a) rest → head_of (head_term f) ≡ some (h_along i j) → contract e f a ≡ some u → Copies out.old 0 out.new (length stack.old) u result }
+    ensures { (e : Env) (f a u : Term) (i j : ℕ) (rest : List ℕ) → At words.now at (app f a) rest → head_of (head_term f) ≡ some (h_along i j) → contract e f a ≡ some u → Fits out.old 0 out.new u result }
 {
     let place = skip_terms(words, at + 21, 3);
-    match copy_term(words, place, out, 0) {
-        Some(end) => Copied::Done(end),
-        None => Copied::NoRoom,
-    }
-}
-
-// The same answer.
-fn made_from(copied: Copied) -> Made
-    ensures { result ≡ made_of copied }
-{
-    match copied {
-        Copied::Done(end) => Made::Done(end),
-        Copied::NoRoom => Made::NoRoom,
-        Copied::NoStack => Made::NoStack,
-    }
+    copy_term(words, place, out, 0)
 }
 
 // A redex that is an application.
-fn contract_app(words: &[u32], at: usize, out: &mut [u32], stack: &mut [u32]) -> Made
-    requires { AppRedex words.now at }
-    ensures { (e : Env) (f a u : Term) (rest : List ℕ) → At words.now at (app f a) rest → contract e f a ≡ some u → Makes e out.old out.new (length stack.old) u result }
-{
-    if let Sign::Lam = sign_at(words, at + 3) {
-        return made_from(make_beta(words, at, out, stack));
-    }
-    let count = count_uses(words, at);
-    if let Sign::Along(_, _) = sign_at(words, at + 3 * count) {
-        return made_from(make_along(words, at, out, stack));
-    }
-    Made::NotYet
-}
-
-// What the redex that stands there contracts to.
-pub fn contract_into(
-    index: &[u32],
-    store: &[u32],
+fn contract_app(
     words: &[u32],
     at: usize,
     out: &mut [u32],
     stack: &mut [u32],
-) -> Made
-    requires { Contractible index.now store.now words.now at }
-    ensures { (e : Env) (t u : Term) (rest : List ℕ) → EnvAt index.now store.now e → At words.now at t rest → top_step e t ≡ some u → Makes e out.old out.new (length stack.old) u result }
+) -> Result<usize, StepError>
+    requires { AppRedex words.now at }
+    ensures { (e : Env) (f a u : Term) (rest : List ℕ) → At words.now at (app f a) rest → contract e f a ≡ some u → Makes e out.old out.new (length stack.old) u result }
+{
+    if let Sign::Lam = sign_at(words, at + 3) {
+        let end = make_beta(words, at, out, stack)?;
+        return Ok(end);
+    }
+    let count = count_uses(words, at);
+    if let Sign::Along(_, _) = sign_at(words, at + 3 * count) {
+        return make_along(words, at, out).ok_or(StepError::NoRoom);
+    }
+    Err(StepError::NotYet)
+}
+
+// What the redex that stands there contracts to.
+pub fn contract_into(
+    env: Environment,
+    words: &[u32],
+    at: usize,
+    out: &mut [u32],
+    stack: &mut [u32],
+) -> Result<usize, StepError>
+    requires { Contractible env.index.now env.store.now words.now at }
+    ensures { (e : Env) (t u : Term) (rest : List ℕ) → EnvAt env.entry.index.now env.entry.store.now e → At words.now at t rest → top_step e t ≡ some u → Makes e out.old out.new (length stack.old) u result }
 {
     match sign_at(words, at) {
-        Sign::Def(i) => made_from(make_delta(index, store, i, out, stack)),
+        Sign::Def(i) => make_delta(env, i, out).ok_or(StepError::NoRoom),
         Sign::App => contract_app(words, at, out, stack),
-        _ => Made::NotYet,
+        _ => Err(StepError::NotYet),
     }
 }

@@ -5,13 +5,15 @@ ghost use Rattle.theory.specs.Environment.{Env};
 ghost use Rattle.terms.specs.Words.{put};
 ghost use Rattle.reduction.specs.Store.{EnvAt};
 ghost use Rattle.reduction.specs.Stepping.{Stands, Ready, Findable};
-ghost use Rattle.reduction.specs.Aims.{Reduces, Met, domain_rests_lem, resting};
+ghost use Rattle.reduction.specs.Aims.{Reduces, Met, domain_rests_lem, resting, reduce_error};
 
 use crate::find::find;
-use crate::step::{Stepped, has_step, step};
+use crate::step::{StepError, has_step, step};
+use crate::store::Environment;
+use terms::sign::{Sign, sign_at};
 
 // Until the term is normal; is the first function type, the first sort; until the domain of the first function type is normal.
-#[derive(Clone, Copy)]
+#[derive(Clone, Copy, Debug, PartialEq, Eq)]
 pub enum Aim {
     ToNormal,
     ToPi,
@@ -19,41 +21,53 @@ pub enum Aim {
     ToDomain,
 }
 
-// The aim is reached, with the number of steps and the term's end; the term is normal and not of the aim's form; more steps are
-// needed than allowed; there is no room; a recursor's step comes, which is not coded yet.
-#[derive(Clone, Copy)]
+// The aim is reached, or the term is normal and not of the aim's form; with the number of steps and the term's end.
+#[derive(Clone, Copy, Debug, PartialEq, Eq)]
 pub enum Reduced {
     Reached(u64, usize),
     Resting(u64, usize),
+}
+
+// Why neither was found: more steps are needed than allowed; there is no room; a recursor's step comes, which is not coded yet.
+#[derive(Clone, Copy, Debug, PartialEq, Eq)]
+pub enum ReduceError {
     UsedUp,
     NoRoom,
     NotYet,
 }
 
-// Is the term that stands there a function type whose domain is normal?
-fn domain_rests(index: &[u32], store: &[u32], heap: &[u32], at: usize, stack: &mut [u32]) -> bool
-    requires { Findable index.now store.now heap.now at (length stack.old) }
-    ensures { (e : Env) (front rest : List ℕ) (t : Term) → EnvAt index.now store.now e → heap.now ≡ front ++ put t rest → length front ≡ at → result ≡ domain_rests_lem e t }
-{
-    if heap[at] != 0 {
-        return false;
+impl From<StepError> for ReduceError {
+    ghost from_gives = { λ e x. x ≡ reduce_error e };
+
+    fn from(e: StepError) -> ReduceError {
+        match e {
+            StepError::NoRoom | StepError::NoStack => ReduceError::NoRoom,
+            StepError::NotYet => ReduceError::NotYet,
+        }
     }
-    match find(index, store, heap, at + 3, stack) {
-        Some(_) => false,
-        None => true,
+}
+
+// Is the term that stands there a function type whose domain is normal?
+fn domain_rests(env: Environment, heap: &[u32], at: usize, stack: &mut [u32]) -> bool
+    requires { Findable env.index.now env.store.now heap.now at (length stack.old) }
+    ensures { (e : Env) (front rest : List ℕ) (t : Term) → EnvAt env.entry.index.now env.entry.store.now e → heap.now ≡ front ++ put t rest → length front ≡ at → result ≡ domain_rests_lem e t }
+{
+    match sign_at(heap, at) {
+        Sign::Pi => find(env, heap, at + 3, stack).is_none(),
+        _ => false,
     }
 }
 
 // Is the term that stands there of the aim's form? For the normal form nothing is tested, since the step says whether there is one.
-fn met(index: &[u32], store: &[u32], heap: &[u32], at: usize, stack: &mut [u32], aim: Aim) -> bool
-    requires { Findable index.now store.now heap.now at (length stack.old) }
-    ensures { (e : Env) (front rest : List ℕ) (t : Term) → EnvAt index.now store.now e → heap.now ≡ front ++ put t rest → length front ≡ at → Met e aim t result }
+fn met(env: Environment, heap: &[u32], at: usize, stack: &mut [u32], aim: Aim) -> bool
+    requires { Findable env.index.now env.store.now heap.now at (length stack.old) }
+    ensures { (e : Env) (front rest : List ℕ) (t : Term) → EnvAt env.entry.index.now env.entry.store.now e → heap.now ≡ front ++ put t rest → length front ≡ at → Met e aim t result }
 {
     match aim {
         Aim::ToNormal => false,
-        Aim::ToPi => heap[at] == 0,
-        Aim::ToSort => heap[at] == 4,
-        Aim::ToDomain => domain_rests(index, store, heap, at, stack),
+        Aim::ToPi => matches!(sign_at(heap, at), Sign::Pi),
+        Aim::ToSort => matches!(sign_at(heap, at), Sign::Sort(_)),
+        Aim::ToDomain => domain_rests(env, heap, at, stack),
     }
 }
 
@@ -70,8 +84,7 @@ fn at_rest(aim: Aim, steps: u64, end: usize) -> Reduced
 // Reduces the term that stands from `at` to `end` in place, in normal order, until it is of the aim's form or normal. `count` steps were taken
 // before; at most `most` are taken in all.
 pub fn reduce(
-    index: &[u32],
-    store: &[u32],
+    env: Environment,
     heap: &mut [u32],
     at: usize,
     end: usize,
@@ -80,37 +93,32 @@ pub fn reduce(
     aim: Aim,
     count: u64,
     most: u64,
-) -> Reduced
-    requires ready { Ready index.now store.now heap.old at end }
+) -> Result<Reduced, ReduceError>
+    requires ready { Ready env.index.now env.store.now heap.old at end }
     requires order { count ≤ most }
-    ensures { (e : Env) (t : Term) → EnvAt index.now store.now e → Stands heap.old at t end → Reduces e aim count most heap.old at (length scratch.old) (length stack.old) t heap.new result }
+    ensures { (e : Env) (t : Term) → EnvAt env.entry.index.now env.entry.store.now e → Stands heap.old at t end → Reduces e aim count most heap.old at (length scratch.old) (length stack.old) t heap.new result }
 {
     let mut stop = end;
     let mut steps = count;
     'steps: loop {
         if stack.len() < stop - at {
-            return Reduced::NoRoom;
+            return Err(ReduceError::NoRoom);
         }
-        if met(index, store, heap, at, stack, aim) {
-            return Reduced::Reached(steps, stop);
+        if met(env, heap, at, stack, aim) {
+            return Ok(Reduced::Reached(steps, stop));
         }
         if steps == most {
             break 'steps;
         }
-        match step(index, store, heap, at, stop, scratch, stack) {
-            Stepped::Normal => return at_rest(aim, steps, stop),
-            Stepped::Done(next) => stop = next,
-            Stepped::NoRoom => return Reduced::NoRoom,
-            Stepped::NoStack => return Reduced::NoRoom,
-            Stepped::NotYet => return Reduced::NotYet,
-        }
+        let Some(next) = step(env, heap, at, stop, scratch, stack)? else {
+            return Ok(at_rest(aim, steps, stop));
+        };
+        stop = next;
         steps += 1;
     }
-    let Some(more) = has_step(index, store, heap, at, stop, stack) else {
-        return Reduced::NoRoom;
-    };
+    let more = has_step(env, heap, at, stop, stack).ok_or(ReduceError::NoRoom)?;
     if more {
-        return Reduced::UsedUp;
+        return Err(ReduceError::UsedUp);
     }
-    at_rest(aim, steps, stop)
+    Ok(at_rest(aim, steps, stop))
 }

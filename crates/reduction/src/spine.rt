@@ -4,10 +4,10 @@ ghost use Rattle.theory.specs.Terms.{Term, app};
 ghost use Rattle.theory.specs.Environment.{Env};
 ghost use Rattle.theory.proofs.WeakHead.{needs_arg};
 ghost use Rattle.terms.specs.Words.{At, Holds, root};
-ghost use Rattle.reduction.specs.Store.{EnvAt, Stored};
+ghost use Rattle.reduction.specs.Store.{EnvAt};
 ghost use Rattle.reduction.specs.Spines.{uses, head_term, head_of, HeadAt, Wants, Unfolds, Looks, con_fits_lem, refl_fits_lem, Fires};
 
-use crate::store::{Found, con_numbers, data_numbers, find_entry};
+use crate::store::{Environment, Found};
 use terms::sign::{Sign, sign_at};
 
 // What the pass that finds the step does with a term: it has no parts and no step; its two parts come; a redex stands in it at this place; its
@@ -37,15 +37,14 @@ pub fn count_uses(words: &[u32], at: usize) -> usize
 }
 
 // The argument that a head has to look at, from 1, or 0.
-fn needed(index: &[u32], store: &[u32], head: Sign) -> usize
-    requires { Stored index.now store.now }
+fn needed(env: Environment, head: Sign) -> usize
     ensures small { result < 2 ^ 40 }
     ensures two { 0 < result → 2 ≤ result }
-    ensures wants { (e : Env) (t : Term) → EnvAt index.now store.now e → head ≡ root t → Wants e t result }
+    ensures wants { (e : Env) (t : Term) → EnvAt env.entry.index.now env.entry.store.now e → head ≡ root t → Wants e t result }
 {
     match head {
         Sign::Rec(i, _) => {
-            let Some(numbers) = data_numbers(index, store, i) else {
+            let Some(numbers) = env.data_numbers(i) else {
                 return 0;
             };
             numbers.params as usize + (2 + numbers.cons as usize)
@@ -56,24 +55,19 @@ fn needed(index: &[u32], store: &[u32], head: Sign) -> usize
 }
 
 // Does the head unfold?
-fn unfolds(index: &[u32], store: &[u32], head: Sign) -> bool
-    requires { Stored index.now store.now }
-    ensures { (e : Env) (t : Term) → EnvAt index.now store.now e → head ≡ root t → Unfolds e t result }
+fn unfolds(env: Environment, head: Sign) -> bool
+    ensures { (e : Env) (t : Term) → EnvAt env.entry.index.now env.entry.store.now e → head ≡ root t → Unfolds e t result }
 {
     let Sign::Def(i) = head else {
         return false;
     };
-    match find_entry(index, store, i) {
-        Found::Definition(_, _) => true,
-        _ => false,
-    }
+    matches!(env.find_entry(i), Some(Found::Definition(_, _)))
 }
 
 // Does a constructor of data type `number`, with all its arguments, stand there?
-fn con_fits(index: &[u32], store: &[u32], number: u32, words: &[u32], at: usize) -> bool
-    requires stored { Stored index.now store.now }
-    requires stands { Holds words.now at }
-    ensures { (e : Env) (a : Term) (rest : List ℕ) → EnvAt index.now store.now e → At words.now at a rest → result ≡ con_fits_lem e number (head_of (head_term a)) (uses a) }
+fn con_fits(env: Environment, number: u32, words: &[u32], at: usize) -> bool
+    requires { Holds words.now at }
+    ensures { (e : Env) (a : Term) (rest : List ℕ) → EnvAt env.entry.index.now env.entry.store.now e → At words.now at a rest → result ≡ con_fits_lem e number (head_of (head_term a)) (uses a) }
 {
     let count = count_uses(words, at);
     let Sign::Con(i, k) = sign_at(words, at + 3 * count) else {
@@ -82,10 +76,10 @@ fn con_fits(index: &[u32], store: &[u32], number: u32, words: &[u32], at: usize)
     if number != i {
         return false;
     }
-    let Some(numbers) = data_numbers(index, store, number) else {
+    let Some(numbers) = env.data_numbers(number) else {
         return false;
     };
-    let Some(con) = con_numbers(index, store, number, k) else {
+    let Some(con) = env.con_numbers(number, k) else {
         return false;
     };
     count == numbers.params as usize + (con.fields as usize + con.recs as usize)
@@ -104,30 +98,28 @@ fn refl_fits(words: &[u32], at: usize) -> bool
 }
 
 // Is the application that stands at `at`, whose head looks at its last argument at `last`, a redex?
-pub fn fires(index: &[u32], store: &[u32], words: &[u32], at: usize, last: usize) -> bool
-    requires stored { Stored index.now store.now }
+pub fn fires(env: Environment, words: &[u32], at: usize, last: usize) -> bool
     requires stands { Holds words.now at }
     requires argument { Holds words.now last }
-    ensures { (e : Env) (f a : Term) (x y : List ℕ) → EnvAt index.now store.now e → At words.now at (app f a) x → At words.now last a y → needs_arg e f a ≡ true → Fires e f a result }
+    ensures { (e : Env) (f a : Term) (x y : List ℕ) → EnvAt env.entry.index.now env.entry.store.now e → At words.now at (app f a) x → At words.now last a y → needs_arg e f a ≡ true → Fires e f a result }
 {
     let count = count_uses(words, at);
     match sign_at(words, at + 3 * count) {
-        Sign::Rec(i, _) => con_fits(index, store, i, words, last),
+        Sign::Rec(i, _) => con_fits(env, i, words, last),
         Sign::Along(_, _) => refl_fits(words, last),
         _ => false,
     }
 }
 
 // What the pass does with a term that is no application.
-fn look_alone(index: &[u32], store: &[u32], sign: Sign, at: usize) -> Look
-    requires { Stored index.now store.now }
-    ensures { (e : Env) (t : Term) → EnvAt index.now store.now e → sign ≡ root t → uses t ≡ 0 → Looks e at t result }
+fn look_alone(env: Environment, sign: Sign, at: usize) -> Look
+    ensures { (e : Env) (t : Term) → EnvAt env.entry.index.now env.entry.store.now e → sign ≡ root t → uses t ≡ 0 → Looks e at t result }
 {
     match sign {
         Sign::Pi => Look::Pair,
         Sign::Lam => Look::Pair,
         _ => {
-            if unfolds(index, store, sign) {
+            if unfolds(env, sign) {
                 Look::Redex(at)
             } else {
                 Look::Leaf
@@ -137,23 +129,22 @@ fn look_alone(index: &[u32], store: &[u32], sign: Sign, at: usize) -> Look
 }
 
 // What the pass does with the term that stands there.
-pub fn look_at(index: &[u32], store: &[u32], words: &[u32], at: usize) -> Look
-    requires stored { Stored index.now store.now }
-    requires stands { Holds words.now at }
-    ensures { (e : Env) (t : Term) (rest : List ℕ) → EnvAt index.now store.now e → At words.now at t rest → Looks e at t result }
+pub fn look_at(env: Environment, words: &[u32], at: usize) -> Look
+    requires { Holds words.now at }
+    ensures { (e : Env) (t : Term) (rest : List ℕ) → EnvAt env.entry.index.now env.entry.store.now e → At words.now at t rest → Looks e at t result }
 {
     let count = count_uses(words, at);
     let head = sign_at(words, at + 3 * count);
     if count == 0 {
-        return look_alone(index, store, head, at);
+        return look_alone(env, head, at);
     }
     if let Sign::Lam = head {
         return Look::Redex(at + 3 * (count - 1));
     }
-    if unfolds(index, store, head) {
+    if unfolds(env, head) {
         return Look::Redex(at + 3 * count);
     }
-    let argument = needed(index, store, head);
+    let argument = needed(env, head);
     if argument == 0 {
         return Look::Spread(count);
     }

@@ -4,43 +4,48 @@ ghost use Rattle.theory.specs.Terms.{Term, size};
 ghost use Rattle.theory.specs.Environment.{Env};
 ghost use Rattle.terms.specs.Words.{At};
 ghost use Rattle.reduction.specs.Store.{EnvAt};
-ghost use Rattle.reduction.specs.Stepping.{Stands, Ready, HasStep, StepsTo, Replaceable, Replaces};
+ghost use Rattle.reduction.specs.Stepping.{Stands, Ready, HasStep, StepsTo, Replaceable, Replaces, step_error};
 
 use crate::find::find;
-use crate::make::{Made, contract_into};
-use terms::copy::copy_words;
+use crate::make::contract_into;
+use crate::store::Environment;
+use terms::copy::{WriteError, copy_words};
 use terms::walk::end_of;
 
-// What came of it: there is no step; where the term ends now; there is no room for it; the stack is too short; the step is a
-// recursor's, which is not coded yet.
-#[derive(Clone, Copy)]
-pub enum Stepped {
-    Normal,
-    Done(usize),
+// Why there is no step: there is no room; the stack is too short; the redex is a recursor's, which is not coded yet.
+#[derive(Clone, Copy, Debug, PartialEq, Eq)]
+pub enum StepError {
     NoRoom,
     NoStack,
     NotYet,
 }
 
+impl From<WriteError> for StepError {
+    ghost from_gives = { λ e x. x ≡ step_error e };
+
+    fn from(e: WriteError) -> StepError {
+        match e {
+            WriteError::NoRoom => StepError::NoRoom,
+            WriteError::NoStack => StepError::NoStack,
+        }
+    }
+}
+
 // Has the term that stands from `at` to `end` a normal-order step? Nothing is written. None: the stack is too short to find out.
 pub fn has_step(
-    index: &[u32],
-    store: &[u32],
+    env: Environment,
     heap: &[u32],
     at: usize,
     end: usize,
     stack: &mut [u32],
 ) -> Option<bool>
-    requires { Ready index.now store.now heap.now at end }
-    ensures { (e : Env) (t : Term) → EnvAt index.now store.now e → Stands heap.now at t end → HasStep e (length stack.old) t result }
+    requires { Ready env.index.now env.store.now heap.now at end }
+    ensures { (e : Env) (t : Term) → EnvAt env.entry.index.now env.entry.store.now e → Stands heap.now at t end → HasStep e (length stack.old) t result }
 {
     if stack.len() < end - at {
         return None;
     }
-    match find(index, store, heap, at, stack) {
-        Some(_) => Some(true),
-        None => Some(false),
-    }
+    Some(find(env, heap, at, stack).is_some())
 }
 
 // The first `made` words of the scratch words in place of the term at `at`; what stands behind it up to `end` moves along.
@@ -65,32 +70,25 @@ fn replace(
     Some(copy_words(scratch, 0, stop, heap, at))
 }
 
-// One normal-order step of the term that stands from `at` to `end`.
+// One normal-order step of the term that stands from `at` to `end`: where it ends then; or it has none.
 pub fn step(
-    index: &[u32],
-    store: &[u32],
+    env: Environment,
     heap: &mut [u32],
     at: usize,
     end: usize,
     scratch: &mut [u32],
     stack: &mut [u32],
-) -> Stepped
-    requires { Ready index.now store.now heap.old at end }
-    ensures { (e : Env) (t : Term) → EnvAt index.now store.now e → Stands heap.old at t end → StepsTo e heap.old at (length scratch.old) (length stack.old) t heap.new result }
+) -> Result<Option<usize>, StepError>
+    requires { Ready env.index.now env.store.now heap.old at end }
+    ensures { (e : Env) (t : Term) → EnvAt env.entry.index.now env.entry.store.now e → Stands heap.old at t end → StepsTo e heap.old at (length scratch.old) (length stack.old) t heap.new result }
 {
     if stack.len() < end - at {
-        return Stepped::NoStack;
+        return Err(StepError::NoStack);
     }
-    let Some(place) = find(index, store, &heap[at..end], 0, stack) else {
-        return Stepped::Normal;
+    let Some(place) = find(env, &heap[at..end], 0, stack) else {
+        return Ok(None);
     };
-    match contract_into(index, store, &heap[at..end], place, scratch, stack) {
-        Made::Done(made) => match replace(heap, at + place, end, scratch, made) {
-            Some(stop) => Stepped::Done(stop),
-            None => Stepped::NoRoom,
-        },
-        Made::NoRoom => Stepped::NoRoom,
-        Made::NoStack => Stepped::NoStack,
-        Made::NotYet => Stepped::NotYet,
-    }
+    let made = contract_into(env, &heap[at..end], place, scratch, stack)?;
+    let stop = replace(heap, at + place, end, scratch, made).ok_or(StepError::NoRoom)?;
+    Ok(Some(stop))
 }

@@ -1,13 +1,13 @@
 -- Lifting and substituting, node by node.
-use Rattle.std.proofs.Common.{◌≡◌, ℕ, suc, ◌+◌, ◌<◌, ◌≤◌, eqb, ltb, ◌⊎◌, List, [], ◌++◌, length, sym, refl, ap, inl, inr, ⊎_elim, arith, ltb-false, ltb-true, le-ltb, lt-ltb, eq-eqb, ne_eqb, eqb-true}
+use Rattle.std.proofs.Common.{◌≡◌, ℕ, suc, ◌<◌, ◌≤◌, eqb, ltb, ◌⊎◌, List, [], ◌++◌, length, subst as tr, sym, refl, ap, inl, inr, ⊎_elim, Ok, Err, Result, arith, ltb-false, ltb-true, le-ltb, lt-ltb, eq-eqb, ne_eqb, eqb-true}
 use borrow.Author.Tests.{eqb-false}
 use Rattle.theory.specs.Terms.{h_def, h_data, h_con, h_rec, h_eq, h_refl, h_along, Term, var, const, sort, pi, lam, app, size, lift, subst}
 use Rattle.theory.proofs.Options.{cases_bool}
 use Rattle.terms.specs.declared.sign.Sign.{Sign}
 use Rattle.terms.specs.declared.sign.Sign.TheVariants.{Pi, Lam, App, Var, Sort, Def, Data, Con, Rec, Eq, Refl, Along}
 use Rattle.terms.specs.Copying.{Copies, Writes}
-use Rattle.terms.specs.declared.copy.Copied.{Copied}
-use Rattle.terms.specs.declared.copy.Copied.TheVariants.{Done, NoRoom, NoStack}
+use Rattle.terms.specs.declared.copy.WriteError.{WriteError}
+use Rattle.terms.specs.declared.copy.WriteError.TheVariants.{NoRoom, NoStack}
 use Rattle.terms.proofs.Appending.{append_as}
 use Rattle.terms.specs.Words.{put, puts, root, sign_words, lift_sign, is_index_lem, subst_sign, subst_words, Small}
 use Rattle.terms.proofs.Nodes.{put_append, put-length, size-parts}
@@ -113,10 +113,14 @@ substituting u = record {
 }
 
 -- A term written is its words written.
-pub writes_term : (before after : List ℕ) (start stack : ℕ) (v : Term) (new : List ℕ) → new ≡ put v [] → (r : Copied) → Copies before start after stack v r → Writes before start after stack new r
-writes_term before after start stack v new e (Done end) c = append_as _ _ _ _ _ _ (sym e) c
-writes_term before after start stack v new e NoRoom c = omega (arith, ap length e, put-length v [])
-writes_term before after start stack v new e NoStack c = omega (arith, ap length e, put-length v [])
+pub writes_term : (before after : List ℕ) (start stack : ℕ) (v : Term) (new : List ℕ) → new ≡ put v [] → (r : Result ℕ WriteError) → Copies before start after stack v r → Writes before start after stack new r
+writes_term before after start stack v new e (Ok end) c = append_as _ _ _ _ _ _ (sym e) c
+writes_term before after start stack v new e (Err NoRoom) c = omega (arith, ap length e, put-length v [])
+writes_term before after start stack v new e (Err NoStack) c = omega (arith, ap length e, put-length v [])
+
+-- The same with the stack's length and the words under other names.
+pub writes_as : (before : List ℕ) (start : ℕ) (after : List ℕ) (m n : ℕ) (new words : List ℕ) (r : Result ℕ WriteError) → m ≡ n → new ≡ words → Writes before start after m new r → Writes before start after n words r
+writes_as before start after m n new words r e f w = tr (λ (k : ℕ). Writes before start after k words r) e (tr (λ (z : List ℕ). Writes before start after m z r) f w)
 
 -- The size of a lifted term.
 pub lift-size : (t : Term) (c d : ℕ) → size (lift c d t) ≡ size t

@@ -1,5 +1,5 @@
 -- A term is its root and its parts, in words too.
-use Rattle.std.proofs.Common.{◌≡◌, ℕ, zero, suc, ◌+◌, ◌*◌, ◌/◌, ◌%◌, ◌<◌, ◌≤◌, cond, ltb, List, [], ◌∷◌, ◌++◌, length, get_or, sym, refl, ap, ◌∙◌, ap₂, arith, length-append, le-ltb, lt-ltb}
+use Rattle.std.proofs.Common.{◌≡◌, ℕ, zero, suc, ◌+◌, ◌*◌, ◌/◌, ◌%◌, ◌≤◌, cond, true, false, List, [], ◌∷◌, ◌++◌, length, get_or, sym, refl, ap, ◌∙◌, ap₂, arith, length-append}
 use Rattle.std.proofs.lemmas.List.{nil_from_length}
 use Rattle.theory.specs.Terms.{h_def, h_data, h_con, h_rec, h_eq, h_refl, h_along, Term, var, const, sort, pi, lam, app, size}
 use Rattle.theory.proofs.Closed.{Scoped}
@@ -118,21 +118,7 @@ root-same t u p q r = let a = sign_is t in let b = sign_is u in cc
 pub same-root : (t u : Term) → root t ≡ root u → (tag t ≡ tag u) × (low t ≡ low u) × (high t ≡ high u)
 same-root t u e = let a = sign_three t in let b = sign_three u in (cc, cc, cc)
 
--- The number of parts is told by the root, and by the tag.
-pub has_parts_tag : (t : Term) → has_parts (root t) ≡ ltb (tag t) 3
-has_parts_tag (pi a b) = refl
-has_parts_tag (lam a b) = refl
-has_parts_tag (app f a) = refl
-has_parts_tag (var x) = refl
-has_parts_tag (sort i) = refl
-has_parts_tag (const (h_def i)) = refl
-has_parts_tag (const (h_data i)) = refl
-has_parts_tag (const (h_con i k)) = refl
-has_parts_tag (const (h_rec i j)) = refl
-has_parts_tag (const (h_eq i)) = refl
-has_parts_tag (const (h_refl i)) = refl
-has_parts_tag (const (h_along i j)) = refl
-
+-- The number of parts is told by the root.
 pub parts_count : (t : Term) → length (parts t) ≡ cond (has_parts (root t)) 2 0
 parts_count (pi a b) = refl
 parts_count (lam a b) = refl
@@ -147,11 +133,11 @@ parts_count (const (h_eq i)) = refl
 parts_count (const (h_refl i)) = refl
 parts_count (const (h_along i j)) = refl
 
-pub parts_two : (t : Term) → tag t < 3 → length (parts t) ≡ 2
-parts_two t h = rw (parts_count t, has_parts_tag t, lt-ltb (tag t) 3 h)
+pub parts_two : (t : Term) → has_parts (root t) ≡ true → length (parts t) ≡ 2
+parts_two t h = rw (parts_count t, h)
 
-pub parts_none : (t : Term) → 3 ≤ tag t → parts t ≡ []
-parts_none t h = nil_from_length (parts t) (rw (parts_count t, has_parts_tag t, le-ltb (tag t) 3 h))
+pub parts_none : (t : Term) → has_parts (root t) ≡ false → parts t ≡ []
+parts_none t h = nil_from_length (parts t) (rw (parts_count t, h))
 
 -- The term with this root and these parts.
 abbrev pub build : Sign → List Term → Term

@@ -1,11 +1,14 @@
 -- A term written anew node by node, from left to right: what is done with a part depends on the number of binders around it.
 -- One part is at hand; the second parts of the nodes above wait, and their depths stand on a stack.
-use Rattle.std.proofs.Common.{◌≡◌, ℕ, suc, ◌+◌, ◌*◌, ◌<◌, ◌≤◌, true, false, List, [], ◌∷◌, ◌++◌, length, take, drop, sym, refl, ap, ◌∙◌, subst as tr, append_assoc, append-nil, arith, length-append, length-take}
+use Rattle.std.proofs.Common.{◌≡◌, ℕ, suc, ◌+◌, ◌*◌, ◌<◌, ◌≤◌, true, false, Err, List, [], ◌∷◌, ◌++◌, length, take, drop, sym, refl, ap, ◌∙◌, subst as tr, append_assoc, append-nil, arith, length-append, length-take}
 use Rattle.std.proofs.lemmas.List.{drop-drop, drop_all, nil_from_length}
 use Rattle.theory.specs.Terms.{h_def, h_data, h_con, h_rec, h_eq, h_refl, h_along, Term, var, const, sort, pi, lam, app, size}
 use Rattle.theory.proofs.Options.{true-false, false-true}
 use Rattle.terms.specs.Words.{put, puts, sizes, At, Holds, root, parts, has_parts, under, number}
 use Rattle.terms.specs.Writing.{Appends, Pushes}
+use Rattle.terms.specs.Copying.{Copies, Writes}
+use Rattle.terms.specs.declared.copy.WriteError.{WriteError}
+use Rattle.terms.specs.declared.copy.WriteError.TheVariants.{NoRoom, NoStack}
 use Rattle.terms.proofs.Nodes.{put-length, puts-length, length-sizes}
 use Rattle.terms.proofs.Places.{row_three, at_one}
 use Rattle.terms.proofs.Appending.{append_then, append_as}
@@ -256,6 +259,12 @@ module _ {w : Rewrite} {ws : List ℕ} {p cut : ℕ} {out₀ : List ℕ} {start 
           ap length v.is,
           w.long depth s.term,
         )
+
+    -- the words for the root were not written
+    pub doing_err : {n : ℕ} → length out₀ ≡ length out → n ≡ length stack → (after : List ℕ) (x : WriteError) → Writes out end after free (w.here depth s.term) (Err x)
+        → (t : Term) (rest : List ℕ) → At ws p t rest → Copies out₀ start after n (w.becomes cut t) (Err x)
+    doing_err e m after NoRoom h = doing_no_room e h
+    doing_err e m after NoStack h = doing_no_stack m h
 
     module _ {out₂ : List ℕ} {end₂ : ℕ} (q : Appends out end (w.here depth s.term) out₂ end₂) where
       -- into the first part; the second waits

@@ -1,10 +1,11 @@
 -- A walk over terms from left to right: a row of terms is still to come.
-use Rattle.std.proofs.Common.{◌≡◌, ℕ, ◌+◌, ◌-◌, ◌*◌, ◌<◌, ◌≤◌, List, [], ◌∷◌, ◌++◌, length, get_or, drop, sym, refl, ap, ◌∙◌, arith, length-append, length-drop}
+use Rattle.std.proofs.Common.{◌≡◌, ℕ, ◌+◌, ◌-◌, ◌*◌, ◌<◌, ◌≤◌, Bool, true, false, List, [], ◌∷◌, ◌++◌, length, drop, sym, refl, ap, ◌∙◌, arith, length-append, length-drop}
 use Rattle.std.proofs.lemmas.List.{nil_from_length}
 use Rattle.theory.specs.Terms.{Term, size}
-use Rattle.terms.specs.Words.{puts, sizes, At, Holds, root, parts}
+use Rattle.terms.specs.Words.{puts, sizes, At, Holds, root, parts, has_parts}
+use Rattle.terms.specs.declared.sign.Sign.{Sign}
 use Rattle.terms.proofs.Nodes.{parts_two, parts_none, size-parts, sizes_append, puts-length, length-sizes, same_parts, pairs_on, pairs_back}
-use Rattle.terms.proofs.Places.{row_three, at_three, at_one}
+use Rattle.terms.proofs.Places.{row_three, at_one}
 
 -- From place on, so many terms are still to come of the one that stands at p.
 pub record ToCome (ws : List ℕ) (p place count : ℕ) : Type 0 where
@@ -19,8 +20,16 @@ pub record ToCome (ws : List ℕ) (p place count : ℕ) : Type 0 where
 pub come_start : (ws : List ℕ) (p : ℕ) → Holds ws p → ToCome ws p p 1
 come_start ws p h = record { whole = h.term; rest = h.rest; row = h.term ∷ []; here = h.at; reads = h.at.stands; counts = refl; ends = omega arith }
 
+-- Has the node at a place parts?
+abbrev pub Node : List ℕ → ℕ → Bool → Type 0
+Node ws place b = (t : Term) (rest : List ℕ) → At ws place t rest → has_parts (root t) ≡ b
+
+pub node_is : (ws : List ℕ) (place : ℕ) (s : Sign) (r b : Bool) → ((t : Term) (rest : List ℕ) → At ws place t rest → s ≡ root t) → r ≡ has_parts s → r ≡ b → Node ws place b
+node_is ws place s r b e f g t rest a = ap has_parts (sym (e t rest a)) ∙ sym f ∙ g
+
 -- There is a node at place, and more words than terms to come.
 pub record Turn (ws : List ℕ) (place count : ℕ) : Type 0 where
+  pub holds : Holds ws place
   pub within : place + 3 ≤ length ws
   pub few : place + count < length ws
 
@@ -30,18 +39,19 @@ come_turn ws p place count w h = go w.row w.reads w.counts
     go : (row : List Term) → drop place ws ≡ puts row w.rest → length row ≡ count → Turn ws place count
     go [] e c = absurd (let z : ⊥ = omega arith in z)
     go (t ∷ ts) e c = record {
+      holds = record { term = t; rest = puts ts w.rest; at = record { stands = e } };
       within = (row_three ws place t ts w.rest e).within;
       few = omega (arith, length-drop place ws, ap length e, puts-length (t ∷ ts) w.rest, length-sizes (t ∷ ts));
     }
 
-pub come_in : (ws : List ℕ) (p place count : ℕ) → ToCome ws p place count → 0 < count → get_or ws place 0 < 3 → ToCome ws p (place + 3) (count + 1)
+pub come_in : (ws : List ℕ) (p place count : ℕ) → ToCome ws p place count → 0 < count → Node ws place true → ToCome ws p (place + 3) (count + 1)
 come_in ws p place count w h l = go w.row w.reads w.counts w.ends
   where
     go : (row : List Term) → drop place ws ≡ puts row w.rest → length row ≡ count → place + 3 * sizes row ≡ p + 3 * size w.whole → ToCome ws p (place + 3) (count + 1)
     go [] e c q = absurd (let z : ⊥ = omega arith in z)
     go (t ∷ ts) e c q =
         let n = row_three ws place t ts w.rest e in
-        let two = parts_two t (omega (arith, n.first)) in
+        let two = parts_two t (l t _ (record { stands = e })) in
         record {
           whole = w.whole;
           rest = w.rest;
@@ -52,14 +62,14 @@ come_in ws p place count w h l = go w.row w.reads w.counts w.ends
           ends = omega (arith, sizes_append (parts t) ts, size-parts t);
         }
 
-pub come_out : (ws : List ℕ) (p place count : ℕ) → ToCome ws p place count → 0 < count → 3 ≤ get_or ws place 0 → ToCome ws p (place + 3) (count - 1)
+pub come_out : (ws : List ℕ) (p place count : ℕ) → ToCome ws p place count → 0 < count → Node ws place false → ToCome ws p (place + 3) (count - 1)
 come_out ws p place count w h l = go w.row w.reads w.counts w.ends
   where
     go : (row : List Term) → drop place ws ≡ puts row w.rest → length row ≡ count → place + 3 * sizes row ≡ p + 3 * size w.whole → ToCome ws p (place + 3) (count - 1)
     go [] e c q = absurd (let z : ⊥ = omega arith in z)
     go (t ∷ ts) e c q =
         let n = row_three ws place t ts w.rest e in
-        let none = parts_none t (omega (arith, n.first)) in
+        let none = parts_none t (l t _ (record { stands = e })) in
         record {
           whole = w.whole;
           rest = w.rest;
@@ -166,12 +176,12 @@ pairs_step ws vs i j p q count next w h same nexts = go w.left_row w.right_row w
         }
 
 pub pairs_in : (ws vs : List ℕ) (i j p q count : ℕ) → Pairs ws vs i j p q count → 0 < count
-    → ((t u : Term) (x y : List ℕ) → At ws p t x → At vs q u y → root t ≡ root u) → get_or ws p 0 < 3 → Pairs ws vs i j (p + 3) (q + 3) (count + 1)
-pairs_in ws vs i j p q count w h same l = pairs_step ws vs i j p q count (count + 1) w h same (λ t x a. omega (arith, parts_two t (omega (arith, (at_three ws p t x a).first))))
+    → ((t u : Term) (x y : List ℕ) → At ws p t x → At vs q u y → root t ≡ root u) → Node ws p true → Pairs ws vs i j (p + 3) (q + 3) (count + 1)
+pairs_in ws vs i j p q count w h same l = pairs_step ws vs i j p q count (count + 1) w h same (λ t x a. omega (arith, parts_two t (l t x a)))
 
 pub pairs_out : (ws vs : List ℕ) (i j p q count : ℕ) → Pairs ws vs i j p q count → 0 < count
-    → ((t u : Term) (x y : List ℕ) → At ws p t x → At vs q u y → root t ≡ root u) → 3 ≤ get_or ws p 0 → Pairs ws vs i j (p + 3) (q + 3) (count - 1)
-pairs_out ws vs i j p q count w h same l = pairs_step ws vs i j p q count (count - 1) w h same (λ t x a. omega (arith, ap length (parts_none t (omega (arith, (at_three ws p t x a).first)))))
+    → ((t u : Term) (x y : List ℕ) → At ws p t x → At vs q u y → root t ≡ root u) → Node ws p false → Pairs ws vs i j (p + 3) (q + 3) (count - 1)
+pairs_out ws vs i j p q count w h same l = pairs_step ws vs i j p q count (count - 1) w h same (λ t x a. omega (arith, ap length (parts_none t (l t x a))))
 
 -- A pair that differs, and no pair left.
 pub pairs_differ : (ws vs : List ℕ) (i j p q count : ℕ) → Pairs ws vs i j p q count → 0 < count

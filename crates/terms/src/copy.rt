@@ -7,10 +7,9 @@ ghost use Rattle.terms.specs.Copying.{Fits};
 
 use crate::walk::end_of;
 
-// What came of writing a term: where it ends, or it does not fit, or the stack is too short.
-#[derive(Clone, Copy)]
-pub enum Copied {
-    Done(usize),
+// Why a term was not written: it does not fit, or the stack is too short.
+#[derive(Clone, Copy, Debug, PartialEq, Eq)]
+pub enum WriteError {
     NoRoom,
     NoStack,
 }
@@ -22,11 +21,9 @@ pub fn copy_words(from: &[u32], at: usize, end: usize, out: &mut [u32], start: u
     requires room { start + (end - at) ≤ length out.old }
     ensures { Appends out.old start (drop at (take end from.now)) out.new result }
 {
-    let count = end - at;
-    for i in 0..count {
-        out[start + i] = from[at + i];
-    }
-    start + count
+    let stop = start + (end - at);
+    out[start..stop].copy_from_slice(&from[at..end]);
+    stop
 }
 
 // The term that stands there, written from `start` on.
@@ -49,9 +46,6 @@ pub fn move_down(heap: &mut [u32], from: usize, end: usize, to: usize) -> usize
     requires within { end ≤ length heap.old }
     ensures { Appends heap.old to (drop from (take end heap.old)) heap.new result }
 {
-    let count = end - from;
-    for i in 0..count {
-        heap[to + i] = heap[from + i];
-    }
-    to + count
+    heap.copy_within(from..end, to);
+    to + (end - from)
 }

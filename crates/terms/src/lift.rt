@@ -4,9 +4,9 @@ ghost use Rattle.theory.specs.Terms.{Term, lift as lift_term};
 ghost use Rattle.terms.specs.Words.{At, HoldsSmall, SmallSign, lift_sign};
 ghost use Rattle.terms.specs.Copying.{Copies};
 
-use crate::copy::Copied;
+use crate::copy::WriteError;
 use crate::number::{number_at, push_number};
-use crate::sign::{Index, Sign, has_parts, inner_depth, push_sign, sign_at};
+use crate::sign::{Index, Sign, push_sign, sign_at};
 
 // The node of a lifted term.
 fn lifted(sign: Sign, cut: usize, by: usize) -> Sign
@@ -14,13 +14,7 @@ fn lifted(sign: Sign, cut: usize, by: usize) -> Sign
     ensures { result ≡ lift_sign cut by sign }
 {
     match sign {
-        Sign::Var(Index(x)) => {
-            if x < cut {
-                sign
-            } else {
-                Sign::Var(Index(x + by))
-            }
-        }
+        Sign::Var(Index(x)) if x >= cut => Sign::Var(Index(x + by)),
         _ => sign,
     }
 }
@@ -35,7 +29,7 @@ pub fn lift(
     out: &mut [u32],
     start: usize,
     stack: &mut [u32],
-) -> Copied
+) -> Result<usize, WriteError>
     requires stands { HoldsSmall (2 ^ 64 - by) from.now at }
     requires order { start ≤ length out.old }
     requires shallow { cut ≤ 2 ^ 63 }
@@ -47,19 +41,19 @@ pub fn lift(
     let mut depth = cut;
     'nodes: loop {
         if out.len() - end < 3 {
-            return Copied::NoRoom;
+            return Err(WriteError::NoRoom);
         }
         let sign = sign_at(from, place);
         end = push_sign(out, end, lifted(sign, depth, by));
         place += 3;
-        if has_parts(sign) {
+        if sign.has_parts() {
             if free < 2 {
-                return Copied::NoStack;
+                return Err(WriteError::NoStack);
             }
-            free = push_number(stack, free, inner_depth(sign, depth));
+            free = push_number(stack, free, sign.inner_depth(depth));
         } else {
             if free == stack.len() {
-                return Copied::Done(end);
+                return Ok(end);
             }
             depth = number_at(stack, free);
             free += 2;

@@ -4,16 +4,18 @@ ghost use Rattle.theory.specs.Terms.{Term};
 ghost use Rattle.terms.specs.Words.{At, Holds, root, sign_words, sign_of, has_parts, under};
 ghost use Rattle.terms.specs.Writing.{Appends};
 
+use crate::number::{number_of, put_number};
+
 // A de Bruijn index.
-#[derive(Clone, Copy)]
+#[derive(Clone, Copy, Debug, PartialEq, Eq)]
 pub struct Index(pub usize);
 
 // The level of a sort.
-#[derive(Clone, Copy)]
+#[derive(Clone, Copy, Debug, PartialEq, Eq)]
 pub struct Level(pub u32);
 
 // A node: with two parts (Pi, Lam, App), a variable, a sort, or a head with its numbers.
-#[derive(Clone, Copy)]
+#[derive(Clone, Copy, Debug, PartialEq, Eq)]
 pub enum Sign {
     Pi,
     Lam,
@@ -37,7 +39,7 @@ fn decode(tag: u32, low: u32, high: u32) -> Sign
         0 => Sign::Pi,
         1 => Sign::Lam,
         2 => Sign::App,
-        3 => Sign::Var(Index(low as usize + 4294967296 * high as usize)),
+        3 => Sign::Var(Index(number_of(low, high))),
         4 => Sign::Sort(Level(low)),
         5 => Sign::Def(low),
         6 => Sign::Data(low),
@@ -62,9 +64,7 @@ fn push_three(out: &mut [u32], at: usize, tag: u32, low: u32, high: u32) -> usiz
     requires { at + 3 ≤ length out.old }
     ensures { Appends out.old at (tag ∷ low ∷ high ∷ []) out.new result }
 {
-    out[at] = tag;
-    out[at + 1] = low;
-    out[at + 2] = high;
+    out[at..at + 3].copy_from_slice(&[tag, low, high]);
     at + 3
 }
 
@@ -73,13 +73,8 @@ fn push_index(out: &mut [u32], at: usize, index: Index) -> usize
     requires { at + 3 ≤ length out.old }
     ensures { Appends out.old at (sign_words (Sign.Var index)) out.new result }
 {
-    push_three(
-        out,
-        at,
-        3,
-        (index.0 % 4294967296) as u32,
-        (index.0 / 4294967296) as u32,
-    )
+    out[at] = 3;
+    put_number(out, at + 1, index.0)
 }
 
 // The words of a node.
@@ -103,23 +98,22 @@ pub fn push_sign(out: &mut [u32], at: usize, sign: Sign) -> usize
     }
 }
 
-// Has the node parts?
-pub fn has_parts(sign: Sign) -> bool
-    ensures { result ≡ has_parts sign }
-{
-    match sign {
-        Sign::Pi | Sign::Lam | Sign::App => true,
-        _ => false,
+impl Sign {
+    // Has the node parts?
+    pub fn has_parts(self) -> bool
+        ensures { result ≡ has_parts self }
+    {
+        matches!(self, Sign::Pi | Sign::Lam | Sign::App)
     }
-}
 
-// The number of binders around the node's second part, if there are `depth` around the node.
-pub fn inner_depth(sign: Sign, depth: usize) -> usize
-    requires { depth + 1 < 2 ^ 64 }
-    ensures { result ≡ under sign depth }
-{
-    match sign {
-        Sign::Pi | Sign::Lam => depth + 1,
-        _ => depth,
+    // The number of binders around the node's second part, if there are `depth` around the node.
+    pub fn inner_depth(self, depth: usize) -> usize
+        requires { depth + 1 < 2 ^ 64 }
+        ensures { result ≡ under self depth }
+    {
+        match self {
+            Sign::Pi | Sign::Lam => depth + 1,
+            _ => depth,
+        }
     }
 }

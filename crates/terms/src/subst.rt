@@ -1,36 +1,20 @@
 // A term put for an index.
 ghost use Rattle.std.specs.Prelude.{◌≡◌, ℕ, ◌-◌, ◌^◌, ◌≤◌, List, length};
 ghost use Rattle.theory.specs.Terms.{Term, subst as subst_term};
-ghost use Rattle.terms.specs.Words.{At, Holds, HoldsSmall, is_index_lem, subst_sign, subst_words};
+ghost use Rattle.terms.specs.Words.{At, Holds, HoldsSmall, subst_sign, subst_words};
 ghost use Rattle.terms.specs.Copying.{Copies, Writes};
 
-use crate::copy::Copied;
+use crate::copy::WriteError;
 use crate::lift::lift;
 use crate::number::{number_at, push_number};
-use crate::sign::{Index, Sign, has_parts, inner_depth, push_sign, sign_at};
-
-// Is it the variable `depth`?
-fn is_index(sign: Sign, depth: usize) -> bool
-    ensures { result ≡ is_index_lem depth sign }
-{
-    match sign {
-        Sign::Var(Index(x)) => x == depth,
-        _ => false,
-    }
-}
+use crate::sign::{Index, Sign, push_sign, sign_at};
 
 // The node with a larger index one smaller, since the binder of `depth` is gone.
 fn lowered(sign: Sign, depth: usize) -> Sign
     ensures { result ≡ subst_sign depth sign }
 {
     match sign {
-        Sign::Var(Index(x)) => {
-            if depth < x {
-                Sign::Var(Index(x - 1))
-            } else {
-                sign
-            }
-        }
+        Sign::Var(Index(x)) if depth < x => Sign::Var(Index(x - 1)),
         _ => sign,
     }
 }
@@ -44,18 +28,18 @@ fn put_node(
     out: &mut [u32],
     start: usize,
     stack: &mut [u32],
-) -> Copied
+) -> Result<usize, WriteError>
     requires stands { HoldsSmall (2 ^ 64 - depth) arg.now arg_at }
     requires order { start ≤ length out.old }
     ensures { (u : Term) (rest : List ℕ) → At arg.now arg_at u rest → Writes out.old start out.new (length stack.old) (subst_words depth u sign) result }
 {
-    if is_index(sign, depth) {
+    if sign == Sign::Var(Index(depth)) {
         return lift(arg, arg_at, 0, depth, out, start, stack);
     }
     if out.len() - start < 3 {
-        return Copied::NoRoom;
+        return Err(WriteError::NoRoom);
     }
-    Copied::Done(push_sign(out, start, lowered(sign, depth)))
+    Ok(push_sign(out, start, lowered(sign, depth)))
 }
 
 // The body that stands there with the argument put for the variable `index`.
@@ -69,7 +53,7 @@ pub fn subst(
     out: &mut [u32],
     start: usize,
     stack: &mut [u32],
-) -> Copied
+) -> Result<usize, WriteError>
     requires stands { Holds body.now at }
     requires argument { HoldsSmall (2 ^ 63) arg.now arg_at }
     requires order { start ≤ length out.old }
@@ -82,20 +66,16 @@ pub fn subst(
     let mut depth = index;
     'nodes: loop {
         let sign = sign_at(body, place);
-        match put_node(sign, depth, arg, arg_at, out, end, &mut stack[0..free]) {
-            Copied::Done(next) => end = next,
-            Copied::NoRoom => return Copied::NoRoom,
-            Copied::NoStack => return Copied::NoStack,
-        }
+        end = put_node(sign, depth, arg, arg_at, out, end, &mut stack[0..free])?;
         place += 3;
-        if has_parts(sign) {
+        if sign.has_parts() {
             if free < 2 {
-                return Copied::NoStack;
+                return Err(WriteError::NoStack);
             }
-            free = push_number(stack, free, inner_depth(sign, depth));
+            free = push_number(stack, free, sign.inner_depth(depth));
         } else {
             if free == stack.len() {
-                return Copied::Done(end);
+                return Ok(end);
             }
             depth = number_at(stack, free);
             free += 2;

@@ -1,5 +1,5 @@
 // Terms compared, copied, lifted and substituted.
-use crate::copy::{Copied, copy_term};
+use crate::copy::{WriteError, copy_term};
 use crate::lift::lift;
 use crate::subst::subst;
 use crate::walk::{end_of, equal};
@@ -25,7 +25,7 @@ fn compares(rt: HostRuntime) -> Result<(), Fail> {
 fn lifts(rt: HostRuntime) -> Result<(), Fail> {
     let mut out = [0; 15];
     let mut stack = [0; 4];
-    let Copied::Done(end) = lift(&FAR, 0, 0, 1, &mut out, 0, &mut stack) else {
+    let Ok(end) = lift(&FAR, 0, 0, 1, &mut out, 0, &mut stack) else {
         return Err(Fail::new("it does not fit"));
     };
     assert!(rt; end == 15);
@@ -39,7 +39,7 @@ fn lifts(rt: HostRuntime) -> Result<(), Fail> {
 fn substitutes(rt: HostRuntime) -> Result<(), Fail> {
     let mut out = [0; 27];
     let mut stack = [0; 9];
-    let Copied::Done(end) = subst(&NEAR, 0, 0, &NEAR, 0, &mut out, 0, &mut stack) else {
+    let Ok(end) = subst(&NEAR, 0, 0, &NEAR, 0, &mut out, 0, &mut stack) else {
         return Err(Fail::new("it does not fit"));
     };
     assert!(rt; end == 27);
@@ -55,7 +55,7 @@ fn says_no_room(rt: HostRuntime) -> Result<(), Fail> {
     let mut out = [0; 14];
     let mut stack = [0; 1];
     assert!(rt; copy_term(&FAR, 0, &mut out, 0).is_none());
-    if let Copied::NoStack = lift(&FAR, 0, 0, 1, &mut out, 0, &mut stack) {
+    if let Err(WriteError::NoStack) = lift(&FAR, 0, 0, 1, &mut out, 0, &mut stack) {
         return Ok(());
     }
     Err(Fail::new("a stack of one word"))

@@ -3,6 +3,8 @@ ghost use Rattle.std.specs.Prelude.{◌≡◌, ℕ, ◌+◌, ◌*◌, List};
 ghost use Rattle.theory.specs.Terms.{Term, size};
 ghost use Rattle.terms.specs.Words.{At, Holds, Decides, root};
 
+use crate::sign::sign_at;
+
 // Where the term that stands there ends.
 pub fn end_of(words: &[u32], at: usize) -> usize
     requires { Holds words.now at }
@@ -11,7 +13,7 @@ pub fn end_of(words: &[u32], at: usize) -> usize
     let mut place = at;
     let mut pending: usize = 1;
     while pending > 0 {
-        if words[place] < 3 {
+        if sign_at(words, place).has_parts() {
             pending += 1;
         } else {
             pending -= 1;
@@ -27,13 +29,7 @@ fn same_node(left: &[u32], i: usize, right: &[u32], j: usize) -> bool
     requires right { Holds right.now j }
     ensures { (t u : Term) (x y : List ℕ) → At left.now i t x → At right.now j u y → Decides (root t ≡ root u) result }
 {
-    if left[i] != right[j] {
-        return false;
-    }
-    if left[i + 1] != right[j + 1] {
-        return false;
-    }
-    left[i + 2] == right[j + 2]
+    left[i..i + 3] == right[j..j + 3]
 }
 
 // Are the terms at the two places equal? Pairs of terms still to be compared stand one behind the other on both sides.
@@ -42,6 +38,7 @@ pub fn equal(left: &[u32], i: usize, right: &[u32], j: usize) -> bool
     requires right { Holds right.now j }
     ensures { (t u : Term) (x y : List ℕ) → At left.now i t x → At right.now j u y → Decides (t ≡ u) result }
 {
+    // A loop with a measure, the nodes that are left on both sides: how many pairs come is known only as they are read.
     let mut p = i;
     let mut q = j;
     let mut pairs: usize = 1;
@@ -49,7 +46,7 @@ pub fn equal(left: &[u32], i: usize, right: &[u32], j: usize) -> bool
         if !same_node(left, p, right, q) {
             return false;
         }
-        if left[p] < 3 {
+        if sign_at(left, p).has_parts() {
             pairs += 1;
         } else {
             pairs -= 1;

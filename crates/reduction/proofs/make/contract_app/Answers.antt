@@ -1,4 +1,5 @@
-use Rattle.std.proofs.Common.{length, sym, ◌∙◌, subst as tr, arith}
+use Rattle.std.proofs.Common.{Ok, Err, length, sym, ◌∙◌, subst as tr, arith}
+use Rattle.std.proofs.lemmas.Result.{err_from_is_err_and}
 use Rattle.theory.specs.Terms.{app}
 use Rattle.terms.specs.Words.{put, At}
 use Rattle.terms.specs.Copying.{Copies}
@@ -6,7 +7,7 @@ use Rattle.terms.proofs.Places.{at_length}
 use Rattle.terms.proofs.Subterms.{at_function}
 use Rattle.reduction.specs.Spines.{head_term}
 use Rattle.reduction.proofs.Reading.{from_lam, along_head}
-use Rattle.reduction.proofs.Spelling.{rec_redex, beta_result, copies_make}
+use Rattle.reduction.proofs.Spelling.{rec_redex, beta_result, copies_err, fits_make}
 use Rattle.reduction.proofs.make.contract_app.Goals as goal
 
 pub overflow_add-at : goal.overflow_add-at
@@ -24,9 +25,16 @@ make_beta-requires c =
 pub returns-in-Lam : goal.returns-in-Lam
 returns-in-Lam c = λ e f a u rest p s.
     let (x, y, is) = from_lam f (sym c.in-Lam.is ∙ c.sign_at.ensures f _ (at_function c.args.words.now c.args.at f a rest p)) in
-    copies_make e c.args.out.now c.make_beta.new.out (length c.args.stack.now) u c.make_beta.result c.made_from.result c.made_from.ensures
-    (tr (λ z. Copies c.args.out.now 0 c.make_beta.new.out (length c.args.stack.now) z c.make_beta.result) (beta_result e f a x y is s)
-    (c.make_beta.ensures x y a rest (tr (λ z. At c.args.words.now c.args.at (app z a) rest) is p)))
+    tr (λ z. Copies c.args.out.now 0 c.make_beta.new.out (length c.args.stack.now) z (Ok c.in_ok-end.end)) (beta_result e f a x y is s)
+    (c.in_ok-end.ensures x y a rest (tr (λ z. At c.args.words.now c.args.at (app z a) rest) is p))
+
+pub returns-in_err-end : goal.returns-in_err-end
+returns-in_err-end c = λ e f a u rest p s.
+    let (x, y, is) = from_lam f (sym c.in-Lam.is ∙ c.sign_at.ensures f _ (at_function c.args.words.now c.args.at f a rest p)) in
+    let q = err_from_is_err_and c.from_residual.result c.from_residual.ensures.1 in
+    rw (q.1, q.2) (copies_err e c.args.out.now c.make_beta.new.out (length c.args.stack.now) u c.in_err-end.field-0.0
+    (tr (λ z. Copies c.args.out.now 0 c.make_beta.new.out (length c.args.stack.now) z (Err c.in_err-end.field-0.0)) (beta_result e f a x y is s)
+    (c.in_err-end.ensures x y a rest (tr (λ z. At c.args.words.now c.args.at (app z a) rest) is p))))
 
 pub make_along-requires : goal.make_along-requires
 make_along-requires c =
@@ -48,8 +56,8 @@ make_along-requires c =
 pub returns-in-Along : goal.returns-in-Along
 returns-in-Along c = λ e f a u rest p s.
     let h = c.count_uses-count.ensures.head (app f a) rest p in
-    copies_make e c.args.out.now c.make_along.new.out (length c.args.stack.now) u c.make_along.result c.made_from-in-Along.result c.made_from-in-Along.ensures
-    (c.make_along.ensures e f a u c.in-Along.field-0 c.in-Along.field-1 rest p (along_head _ _ _ (sym c.in-Along.is ∙ c.sign_at-2.ensures _ h.rest h.at)) s)
+    rw c.ok_or.ensures.value (fits_make e c.args.out.now c.make_along.new.out (length c.args.stack.now) u c.make_along.result
+    (c.make_along.ensures e f a u c.in-Along.field-0 c.in-Along.field-1 rest p (along_head _ _ _ (sym c.in-Along.is ∙ c.sign_at-2.ensures _ h.rest h.at)) s))
 
 pub returns : goal.returns
 returns c = λ e f a u rest p s.

@@ -14,12 +14,7 @@ copy_term-requires c =
     let (x, at) = along_place c.args.words.now c.args.at c.skip_terms-place.result p.env p.fun p.arg p.result p.first p.second p.rest p.here p.head p.steps c.skip_terms-place.ensures in
     record { stands = record { term = p.result; rest = x; at = at }; order = omega arith }
 
-pub returns-in-Some : goal.returns-in-Some
-returns-in-Some c = λ e f a u i j rest p h s.
+pub returns : goal.returns
+returns c = λ e f a u i j rest p h s.
     let (x, at) = along_place c.args.words.now c.args.at c.skip_terms-place.result e f a u i j rest p h s c.skip_terms-place.ensures in
-    c.in-Some.ensures u x at
-
-pub returns-in-None : goal.returns-in-None
-returns-in-None c = λ e f a u i j rest p h s.
-    let (x, at) = along_place c.args.words.now c.args.at c.skip_terms-place.result e f a u i j rest p h s c.skip_terms-place.ensures in
-    c.in-None.ensures u x at
+    c.copy_term.ensures u x at

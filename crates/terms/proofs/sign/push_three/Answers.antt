@@ -1,5 +1,6 @@
-use Rattle.terms.proofs.Appending.{append_three}
+use Rattle.std.proofs.Common.{arith}
+use Rattle.terms.proofs.Moving.{part_written}
 use Rattle.terms.proofs.sign.push_three.Goals as goal
 
 pub returns : goal.returns
-returns c = append_three c.args.out.now c.args.at c.args.tag c.args.low c.args.high c.requires
+returns c = rw c.copy_from_slice.ensures.after (part_written _ _ _ _ _ (omega arith) (omega arith))
