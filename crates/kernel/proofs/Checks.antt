@@ -83,8 +83,8 @@ checkable_later f p q r s = record {
 
 -- Another machine that reads the same.
 module _ {m n : Machine} (p : Keeps m n) where
-  pub kept_stored : {e : Env} → PlainAt m.index.now m.store.now e → PlainAt n.index.now n.store.now e
-  kept_stored {e} s = tr (λ (x : Machine). PlainAt x.index.now x.store.now e) (sym p.read) s
+  pub kept_stored : {e : Env} → PlainAt m.env.index.now m.env.store.now e → PlainAt n.env.index.now n.env.store.now e
+  kept_stored {e} s = tr (λ (x : Machine). PlainAt x.env.index.now x.env.store.now e) (sym p.read) s
 
   pub kept_term : {at : ℕ} {a : Term} {r : List ℕ} → At m.terms.now at a r → At n.terms.now at a r
   kept_term {at} {a} {r} h = tr (λ (x : Machine). At x.terms.now at a r) (sym p.read) h
@@ -94,8 +94,8 @@ module _ {m n : Machine} (p : Keeps m n) where
 
   pub kept_fits : {e : Env} {c : Entry} → Fits e c m → Fits e c n
   kept_fits {e} {c} f =
-      let g : Checkable e c m.index.now m.store.now n.context.now n.frames.now n.heap.now n.stack.now = checkable_later f (sym p.context) (sym p.frames) (sym p.heap) (sym p.stack) in
-      tr (λ (x : Machine). Checkable e c x.index.now x.store.now n.context.now n.frames.now n.heap.now n.stack.now) (sym p.read) g
+      let g : Checkable e c m.env.index.now m.env.store.now n.context.now n.frames.now n.heap.now n.stack.now = checkable_later f (sym p.context) (sym p.frames) (sym p.heap) (sym p.stack) in
+      tr (λ (x : Machine). Checkable e c x.env.index.now x.env.store.now n.context.now n.frames.now n.heap.now n.stack.now) (sym p.read) g
 
 -- A term whose type comes to no sort.
 pub not_sorted : {k : Task} {x : Term} → Sensible k → Has k.env k.context k.term x → NoSort k.env x → ((i : ℕ) × HasType k.env k.context k.term (sort i)) → ⊥

@@ -1,17 +1,20 @@
 -- A type written on top of the heap, and the answer where it does not fit.
-use Rattle.std.proofs.Common.{◌≡◌, ℕ, suc, ◌+◌, ◌*◌, ◌<◌, ◌≤◌, List, [], ◌++◌, length, take, sym, refl, ap, ◌∙◌, subst as tr, inl, inr, arith, length-append, length-take}
+use Rattle.std.proofs.Common.{◌≡◌, ℕ, suc, ◌+◌, ◌*◌, ◌<◌, ◌≤◌, false, ◌⊎◌, List, [], ◌++◌, length, take, sym, refl, ap, ◌∙◌, subst as tr, inl, inr, arith, length-append, length-take}
 use mathlib.Core.Option.{some, none}
 use lib.ListN.{get_elem?}
 use Rattle.theory.specs.Terms.{Term, sort, h_def, lift, size}
 use Rattle.theory.specs.Environment.{head_type_lem}
 use Rattle.theory.specs.Reduction.{map_option}
-use Rattle.theory.proofs.Options.{some_inj, some-none}
+use Rattle.theory.proofs.Options.{some_inj, some-none, false-true}
 use Rattle.terms.specs.declared.sign.Index.{Index}
 use Rattle.terms.specs.declared.sign.Level.{Level}
 use Rattle.terms.specs.declared.sign.Sign.TheVariants.{Var, Sort, Def}
 use Rattle.terms.specs.Words.{put}
 use Rattle.terms.specs.Writing.{Appends}
-use Rattle.terms.specs.Copying.{Fits}
+use Rattle.terms.specs.Copying.{Copies, Fits}
+use Rattle.terms.specs.declared.copy.WriteError.{WriteError}
+use Rattle.terms.specs.declared.copy.WriteError.TheVariants as write
+use Rattle.std.specs.Result.{is_ok}
 use Rattle.terms.proofs.Nodes.{put-length}
 use Rattle.terms.proofs.Appending.{append_keeps}
 use Rattle.reduction.specs.Stepping.{Stands}
@@ -40,6 +43,11 @@ fits_some {before} {after} {start} t p h = tr (Fits before start after t) p h
 
 pub fits_none : {r : Maybe ℕ} (before after : List ℕ) (start : ℕ) (t : Term) → r ≡ None → Fits before start after t r → length before < start + 3 * size t
 fits_none before after start t p h = tr (Fits before start after t) p h
+
+pub copies_none : (before after : List ℕ) (start : ℕ) {stack : ℕ} (r : Result ℕ WriteError) (t : Term) → false ≡ is_ok r → Copies before start after stack t r → (length before < start + 3 * size t) ⊎ (stack < size t)
+copies_none before after start (Ok end) t p h = false-true p
+copies_none before after start (Err write.NoRoom) t p h = inl h
+copies_none before after start (Err write.NoStack) t p h = inr h
 
 pub appended_stands : (before after : List ℕ) (top end : ℕ) (t : Term) → top ≤ length before → Appends before top (put t []) after end → Stands after top t end
 appended_stands before after top end t h p = record {

@@ -22,7 +22,7 @@ pub record Begins (k : Task) (terms context frames : List ℕ) (at names : ℕ) 
 
 pub record CanInfer (m : Machine) (at names : ℕ) : Type 0 where
   pub task : Task
-  pub given : Given task m.index.now m.store.now m.heap.now m.stack.now
+  pub given : Given task m.env.index.now m.env.store.now m.heap.now m.stack.now
   pub begins : Begins task m.terms.now m.context.now m.frames.now at names
   pub steps : task.most ≡ m.most
 

@@ -30,7 +30,7 @@ pub record Checkable (e : Env) (c : Entry) (index store context frames heap stac
   pub stack_room : length heap ≤ length stack
 
 abbrev pub Fits : Env → Entry → Machine → Type 0
-Fits e c m = Checkable e c m.index.now m.store.now m.context.now m.frames.now m.heap.now m.stack.now
+Fits e c m = Checkable e c m.env.index.now m.env.store.now m.context.now m.frames.now m.heap.now m.stack.now
 
 -- An axiom's type stands there; a definition's type and body do.
 pub record AxiomAt (m : Machine) (type_at : ℕ) : Type 0 where
@@ -59,7 +59,7 @@ pub record BodyAt (m : Machine) (type_at body_at : ℕ) : Type 0 where
 -- A closed type stands at the start of the heap, another one among the terms.
 pub record TwoTypes (m : Machine) (at top : ℕ) : Type 0 where
   pub env : Env
-  pub env_at : PlainAt m.index.now m.store.now env
+  pub env_at : PlainAt m.env.index.now m.env.store.now env
   pub closed : ClosedEnv env
   pub left : Term
   pub right : Term

@@ -11,8 +11,8 @@ use Rattle.terms.specs.Writing.{Appends}
 use Rattle.reduction.specs.Aims.{meets}
 use Rattle.reduction.specs.declared.reduce.Aim.{Aim}
 use Rattle.kernel.specs.Inference.{Worked}
-use Rattle.kernel.specs.declared.rested.Rest.{Rest}
-use Rattle.kernel.specs.declared.rested.Rest.TheVariants.{Reached, Resting}
+use Rattle.reduction.specs.declared.reduce.Reduced.{Reduced}
+use Rattle.reduction.specs.declared.reduce.Reduced.TheVariants.{Reached, Resting}
 use Rattle.kernel.specs.declared.failure.Limit.{Limit}
 use Rattle.kernel.specs.declared.failure.Limit.TheVariants as limit
 use Rattle.kernel.specs.declared.failure.Failure.{Failure}
@@ -39,7 +39,7 @@ pub record NoSort (e : Env) (t : Term) : Type 0 where
 
 -- From t, with count steps taken before: the first reduct of the aim's form; the normal form, which is not of it; one step more than
 -- allowed; or a reduct too large for the heap or the stack.
-abbrev pub Halts : Env → Aim → ℕ → ℕ → List ℕ → ℕ → ℕ → Term → List ℕ → Result Rest Limit → Type 0
+abbrev pub Halts : Env → Aim → ℕ → ℕ → List ℕ → ℕ → ℕ → Term → List ℕ → Result Reduced Limit → Type 0
 Halts e aim count most heap at stack t after (Ok (Reached n end)) =
     (u : Term) × (f : FirstReduct e (meets e aim) t u) × (n ≡ count + f.n) × (n ≤ most) × Appends heap at (put u []) after end
 Halts e aim count most heap at stack t after (Ok (Resting n end)) =

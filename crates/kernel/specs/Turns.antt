@@ -59,12 +59,12 @@ Turned k terms context frames heap (Err NoRoom) = NeedsMore k.env k.entry k.most
 -- A turn down, or back, can be made.
 pub record CanGo (m : Machine) (s : Spot) : Type 0 where
   pub task : Task
-  pub given : Given task m.index.now m.store.now m.heap.now m.stack.now
+  pub given : Given task m.env.index.now m.env.store.now m.heap.now m.stack.now
   pub before : Before task m.terms.now m.context.now m.frames.now m.heap.now s
 
 pub record CanReturn (m : Machine) (s : Spot) (end : ℕ) : Type 0 where
   pub task : Task
-  pub given : Given task m.index.now m.store.now m.heap.now m.stack.now
+  pub given : Given task m.env.index.now m.env.store.now m.heap.now m.stack.now
   pub behind : Behind task m.terms.now m.context.now m.frames.now m.heap.now s end
   pub steps : task.most ≡ m.most
 
@@ -84,12 +84,12 @@ pub record Keeps (m n : Machine) : Type 0 where
 -- What a turn down, or back, promises.
 abbrev pub Goes : Machine → Spot → Machine → Result Turn Failure → Type 0
 Goes m s n r =
-    (k : Task) → Given k m.index.now m.store.now m.heap.now m.stack.now → Before k m.terms.now m.context.now m.frames.now m.heap.now s
+    (k : Task) → Given k m.env.index.now m.env.store.now m.heap.now m.stack.now → Before k m.terms.now m.context.now m.frames.now m.heap.now s
     → Turned k m.terms.now n.context.now n.frames.now n.heap.now r
 
 abbrev pub Returns : Machine → Spot → ℕ → Machine → Result Turn Failure → Type 0
 Returns m s end n r =
-    (k : Task) → Given k m.index.now m.store.now m.heap.now m.stack.now → Behind k m.terms.now m.context.now m.frames.now m.heap.now s end
+    (k : Task) → Given k m.env.index.now m.env.store.now m.heap.now m.stack.now → Behind k m.terms.now m.context.now m.frames.now m.heap.now s end
     → k.most ≡ m.most → Turned k m.terms.now n.context.now n.frames.now n.heap.now r
 
 -- What is left to be done: it falls with each turn.

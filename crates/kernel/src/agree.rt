@@ -9,6 +9,7 @@ ghost use Rattle.kernel.specs.Resting.{Above, Comparable, Reducible, Agrees, Agr
 
 use crate::failure::Limit;
 use crate::rested::to_normal;
+use reduction::store::Environment;
 use terms::copy::{copy_term, copy_words};
 use terms::walk::equal;
 
@@ -27,8 +28,7 @@ fn copy_above(heap: &mut [u32], at: usize, end: usize, stack: &mut [u32]) -> Opt
 
 // Compares the normal form that stands from `top` to `end` with that of the term at `domain`, to which `steps` were taken before.
 fn agree_normal(
-    index: &[u32],
-    store: &[u32],
+    env: Environment,
     heap: &mut [u32],
     domain: usize,
     top: usize,
@@ -37,19 +37,18 @@ fn agree_normal(
     steps: u64,
     most: u64,
 ) -> Result<bool, Limit>
-    requires { Comparable index.now store.now heap.old domain top end steps most }
-    ensures { (e : Env) (a c : Term) (rest : List ℕ) → PlainAt index.now store.now e → At heap.old domain a rest → domain + 3 * size a ≤ top → Stands heap.old top c end
+    requires { Comparable env.index.now env.store.now heap.old domain top end steps most }
+    ensures { (e : Env) (a c : Term) (rest : List ℕ) → PlainAt env.entry.index.now env.entry.store.now e → At heap.old domain a rest → domain + 3 * size a ≤ top → Stands heap.old top c end
         → AgreesNormal e steps most heap.old top (length stack.old) a c heap.new result }
 {
     let last = copy_above(heap, domain, end, stack).ok_or(Limit::NoRoom)?;
-    to_normal(index, store, heap, end, last, stack, steps, most)?;
+    to_normal(env, heap, end, last, stack, steps, most)?;
     Ok(equal(heap, top, heap, end))
 }
 
 // Compares the type that stands from `top` to `end` with the term at `domain`, to which `steps` were taken before.
 pub fn agree(
-    index: &[u32],
-    store: &[u32],
+    env: Environment,
     heap: &mut [u32],
     domain: usize,
     top: usize,
@@ -58,13 +57,13 @@ pub fn agree(
     steps: u64,
     most: u64,
 ) -> Result<bool, Limit>
-    requires { Reducible index.now store.now heap.old domain top end steps most }
-    ensures { (e : Env) (a c : Term) (rest : List ℕ) → PlainAt index.now store.now e → At heap.old domain a rest → domain + 3 * size a ≤ top → Stands heap.old top c end
+    requires { Reducible env.index.now env.store.now heap.old domain top end steps most }
+    ensures { (e : Env) (a c : Term) (rest : List ℕ) → PlainAt env.entry.index.now env.entry.store.now e → At heap.old domain a rest → domain + 3 * size a ≤ top → Stands heap.old top c end
         → Agrees e steps most heap.old top (length stack.old) a c heap.new result }
 {
     if equal(heap, domain, heap, top) {
         return Ok(true);
     }
-    let stop = to_normal(index, store, heap, top, end, stack, 0, most)?;
-    agree_normal(index, store, heap, domain, top, stop, stack, steps, most)
+    let stop = to_normal(env, heap, top, end, stack, 0, most)?;
+    agree_normal(env, heap, domain, top, stop, stack, steps, most)
 }

@@ -10,7 +10,7 @@ use crate::failure::Failure;
 use crate::frames::Kind;
 use crate::machine::Machine;
 use crate::turn::{Spot, Turn};
-use terms::copy::{Copied, copy_words};
+use terms::copy::copy_words;
 use terms::subst::subst;
 use terms::walk::end_of;
 
@@ -30,16 +30,11 @@ fn instantiate(
     let body = end_of(heap, kept + 3);
     let half = stack.len() / 2;
     let (out, rest) = stack.split_at_mut(half);
-    match subst(heap, body, 0, terms, place, out, 0, rest) {
-        Copied::Done(count) => {
-            if heap.len() - kept < count {
-                return None;
-            }
-            Some(copy_words(out, 0, count, heap, kept))
-        }
-        Copied::NoRoom => None,
-        Copied::NoStack => None,
+    let count = subst(heap, body, 0, terms, place, out, 0, rest).ok()?;
+    if heap.len() - kept < count {
+        return None;
     }
+    Some(copy_words(out, 0, count, heap, kept))
 }
 
 impl Machine<'_> {
@@ -55,8 +50,7 @@ impl Machine<'_> {
         let kept = self.kept_number(spot.free + 3);
         let steps = self.kept_number(spot.free + 5) as u64;
         if !agree(
-            self.index,
-            self.store,
+            self.env,
             self.heap,
             kept + 3,
             spot.top,

@@ -22,31 +22,27 @@ impl Machine<'_> {
     // Is the term at a place of a sort? Its type is inferred and comes to a sort.
     fn check_type(&mut self, at: usize) -> Result<(), Failure>
         requires { CanInfer self.old at (length self.old.context.now) }
-        ensures sorted { (k : Task) → Given k self.old.index.now self.old.store.now self.old.heap.now self.old.stack.now
+        ensures sorted { (k : Task) → Given k self.old.env.index.now self.old.env.store.now self.old.heap.now self.old.stack.now
             → Begins k self.old.terms.now self.old.context.now self.old.frames.now at (length self.old.context.now)
             → k.most ≡ self.old.most → OfSort k (length self.new.heap.now) result }
         ensures keeps { Keeps self.old self.new }
     {
         let names = self.context.len();
         let end = self.infer(at, names)?;
-        to_level(
-            self.index, self.store, self.heap, 0, end, self.stack, self.most,
-        )?;
+        to_level(self.env, self.heap, 0, end, self.stack, self.most)?;
         Ok(())
     }
 
     // Is the type that stands at the start of the heap, up to `top`, convertible with the one at a place of the terms?
     fn same_type(&mut self, at: usize, top: usize) -> Result<bool, Limit>
         requires { TwoTypes self.old at top }
-        ensures agrees { (e : Env) (b a : Term) (rest : List ℕ) → PlainAt self.old.index.now self.old.store.now e → Stands self.old.heap.now 0 b top
+        ensures agrees { (e : Env) (b a : Term) (rest : List ℕ) → PlainAt self.old.env.index.now self.old.env.store.now e → Stands self.old.heap.now 0 b top
             → At self.old.terms.now at a rest → Agrees e 0 self.old.most self.old.heap.now top (length self.old.stack.now) b a self.new.heap.now result }
         ensures keeps { Keeps self.old self.new }
     {
         let heap = &mut *self.heap;
         let end = copy_term(self.terms, at, heap, top).ok_or(Limit::NoRoom)?;
-        agree(
-            self.index, self.store, self.heap, 0, top, end, self.stack, 0, self.most,
-        )
+        agree(self.env, self.heap, 0, top, end, self.stack, 0, self.most)
     }
 
     // Is the body of the type, which is of a sort?

@@ -17,9 +17,7 @@ impl Machine<'_> {
         ensures falls { Falls self.old (Turn.Back spot end) result }
         ensures keeps { Keeps self.old self.new }
     {
-        let level = to_level(
-            self.index, self.store, self.heap, spot.top, end, self.stack, self.most,
-        )?;
+        let level = to_level(self.env, self.heap, spot.top, end, self.stack, self.most)?;
         let level = self.frames[spot.free + 1].max(level);
         let end = push_sign(self.heap, spot.top, Sign::Sort(Level(level)));
         Ok(Turn::Back(spot.unbound(), end))

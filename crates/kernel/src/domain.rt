@@ -17,9 +17,7 @@ impl Machine<'_> {
         ensures falls { Falls self.old (Turn.Back spot end) result }
         ensures keeps { Keeps self.old self.new }
     {
-        let level = to_level(
-            self.index, self.store, self.heap, spot.top, end, self.stack, self.most,
-        )?;
+        let level = to_level(self.env, self.heap, spot.top, end, self.stack, self.most)?;
         let place = self.kept_number(spot.free + 1);
         let names = push_number(self.context, spot.names, place);
         let free = push_level(self.frames, spot.free + 3, level);
@@ -38,9 +36,7 @@ impl Machine<'_> {
         ensures falls { Falls self.old (Turn.Back spot end) result }
         ensures keeps { Keeps self.old self.new }
     {
-        to_level(
-            self.index, self.store, self.heap, spot.top, end, self.stack, self.most,
-        )?;
+        to_level(self.env, self.heap, spot.top, end, self.stack, self.most)?;
         let place = self.kept_number(spot.free + 1);
         let names = push_number(self.context, spot.names, place);
         self.frames[spot.free] = Kind::UnderLam.word();

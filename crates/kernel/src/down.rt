@@ -46,7 +46,7 @@ impl Machine<'_> {
                 Ok(Turn::Back(spot.past(), end))
             }
             Sign::Def(i) => {
-                let end = head_type(self.index, self.store, i, self.heap, spot.top)?;
+                let end = head_type(self.env, i, self.heap, spot.top)?;
                 Ok(Turn::Back(spot.past(), end))
             }
             _ => Err(Failure::Refused),

@@ -4,9 +4,9 @@ ghost use Rattle.kernel.specs.Turns.{CanReturn, Falls, Keeps, Returns, Tagged};
 use crate::failure::Failure;
 use crate::frames::{Kind, push_argument};
 use crate::machine::Machine;
-use crate::rested::{Rest, reduce_halved};
+use crate::rested::reduce_halved;
 use crate::turn::{Spot, Turn};
-use reduction::reduce::Aim;
+use reduction::reduce::{Aim, Reduced};
 
 impl Machine<'_> {
     // Its type comes to a function type, which is kept: the argument is next.
@@ -18,8 +18,7 @@ impl Machine<'_> {
         ensures keeps { Keeps self.old self.new }
     {
         match reduce_halved(
-            self.index,
-            self.store,
+            self.env,
             self.heap,
             spot.top,
             end,
@@ -28,7 +27,7 @@ impl Machine<'_> {
             0,
             self.most,
         )? {
-            Rest::Reached(steps, stop) => {
+            Reduced::Reached(steps, stop) => {
                 let free = push_argument(self.frames, spot.free + 3, spot.at, spot.top, steps);
                 Ok(Turn::Down(Spot {
                     free,
@@ -36,7 +35,7 @@ impl Machine<'_> {
                     ..spot
                 }))
             }
-            Rest::Resting(_, _) => Err(Failure::Refused),
+            Reduced::Resting(_, _) => Err(Failure::Refused),
         }
     }
 }

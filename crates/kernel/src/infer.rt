@@ -12,7 +12,7 @@ impl Machine<'_> {
     // The type of the term at a place, in the context from `names` on, written at the start of the heap: where it ends.
     pub fn infer(&mut self, at: usize, names: usize) -> Result<usize, Failure>
         requires { CanInfer self.old at names }
-        ensures answers { (k : Task) → Given k self.old.index.now self.old.store.now self.old.heap.now self.old.stack.now
+        ensures answers { (k : Task) → Given k self.old.env.index.now self.old.env.store.now self.old.heap.now self.old.stack.now
             → Begins k self.old.terms.now self.old.context.now self.old.frames.now at names → k.most ≡ self.old.most → Answers k self.new.heap.now result }
         ensures keeps { Keeps self.old self.new }
     {

@@ -11,8 +11,8 @@ ghost use Rattle.kernel.specs.Machine.{ContextAt};
 ghost use Rattle.kernel.specs.Leaves.{LeafSays, ContextFits};
 
 use crate::failure::Failure;
-use reduction::store::{Found, find_entry};
-use terms::copy::{Copied, copy_term};
+use reduction::store::{Environment, Found};
+use terms::copy::copy_term;
 use terms::lift::lift;
 use terms::number::number_at;
 use terms::sign::{Index, Level, Sign, push_sign};
@@ -39,21 +39,15 @@ fn stored_type(store: &[u32], at: usize, heap: &mut [u32], top: usize) -> Result
 }
 
 // The type of a definition or an axiom.
-pub fn head_type(
-    index: &[u32],
-    store: &[u32],
-    i: u32,
-    heap: &mut [u32],
-    top: usize,
-) -> Result<usize, Failure>
-    requires stored { Stored index.now store.now }
+pub fn head_type(env: Environment, i: u32, heap: &mut [u32], top: usize) -> Result<usize, Failure>
+    requires stored { Stored env.index.now env.store.now }
     requires order { top ≤ length heap.old }
-    ensures { (e : Env) (stack : ℕ) → EnvAt index.now store.now e → LeafSays heap.old top stack heap.new (head_type_lem e (h_def i)) result }
+    ensures { (e : Env) (stack : ℕ) → EnvAt env.entry.index.now env.entry.store.now e → LeafSays heap.old top stack heap.new (head_type_lem e (h_def i)) result }
 {
-    match find_entry(index, store, i) {
-        Found::Missing | Found::Inductive => Err(Failure::Refused),
-        Found::Axiom(at) => stored_type(store, at, heap, top),
-        Found::Definition(at, _) => stored_type(store, at, heap, top),
+    match env.find_entry(i).ok_or(Failure::Refused)? {
+        Found::Definition(at, _) => stored_type(env.store, at, heap, top),
+        Found::Axiom(at) => stored_type(env.store, at, heap, top),
+        Found::Inductive(_) => Err(Failure::Refused),
     }
 }
 
@@ -77,9 +71,5 @@ pub fn variable_type(
         return Err(Failure::Refused);
     }
     let place = number_at(context, names + 2 * x);
-    match lift(terms, place, 0, x + 1, heap, top, stack) {
-        Copied::Done(end) => Ok(end),
-        Copied::NoRoom => Err(Failure::NoRoom),
-        Copied::NoStack => Err(Failure::NoRoom),
-    }
+    Ok(lift(terms, place, 0, x + 1, heap, top, stack)?)
 }

@@ -2,14 +2,14 @@
 ghost use Rattle.std.specs.Prelude.{◌≡◌, ℕ, ◌+◌, ◌≤◌, List, length, drop};
 ghost use Rattle.terms.specs.Words.{number};
 
+use reduction::store::Environment;
 use terms::number::number_at;
 
 // What is read, that is the environment and the terms, and the number of steps allowed; and what is written: the types of the context,
 // the frames, the types on the heap, and a stack for what is done with them.
 #[derive(Drop)]
 pub struct Machine<'a> {
-    pub index: &'a [u32],
-    pub store: &'a [u32],
+    pub env: Environment<'a>,
     pub terms: &'a [u32],
     pub context: &'a mut [u32],
     pub frames: &'a mut [u32],

@@ -7,24 +7,24 @@ ghost use Rattle.kernel.specs.Environments.{PlainAt};
 ghost use Rattle.kernel.specs.Reducing.{Sorts};
 
 use crate::failure::Failure;
-use crate::rested::{Rest, reduce_halved};
-use reduction::reduce::Aim;
+use crate::rested::reduce_halved;
+use reduction::reduce::{Aim, Reduced};
+use reduction::store::Environment;
 
 // The level of the first sort that the type comes to that stands from `at` to `end`.
 pub fn to_level(
-    index: &[u32],
-    store: &[u32],
+    env: Environment,
     heap: &mut [u32],
     at: usize,
     end: usize,
     stack: &mut [u32],
     most: u64,
 ) -> Result<u32, Failure>
-    requires ready { Ready index.now store.now heap.old at end }
-    ensures { (e : Env) (t : Term) → PlainAt index.now store.now e → Stands heap.old at t end → Sorts e most heap.old at (length stack.old) t heap.new result }
+    requires ready { Ready env.index.now env.store.now heap.old at end }
+    ensures { (e : Env) (t : Term) → PlainAt env.entry.index.now env.entry.store.now e → Stands heap.old at t end → Sorts e most heap.old at (length stack.old) t heap.new result }
 {
-    match reduce_halved(index, store, heap, at, end, stack, Aim::ToSort, 0, most)? {
-        Rest::Reached(_, _) => Ok(heap[at + 1]),
-        Rest::Resting(_, _) => Err(Failure::Refused),
+    match reduce_halved(env, heap, at, end, stack, Aim::ToSort, 0, most)? {
+        Reduced::Reached(_, _) => Ok(heap[at + 1]),
+        Reduced::Resting(_, _) => Err(Failure::Refused),
     }
 }

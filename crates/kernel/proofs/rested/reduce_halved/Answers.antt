@@ -1,10 +1,8 @@
-use Rattle.std.proofs.Common.{inl, inr, arith}
+use Rattle.std.proofs.Common.{length, arith}
+use Rattle.kernel.proofs.Reduced.{reduce_limited}
 use Rattle.kernel.proofs.rested.reduce_halved.Goals as goal
 
-pub returns-in-NoRoom : goal.returns-in-NoRoom
-returns-in-NoRoom c e t at s =
-    let (u, m, p, q, r) = c.in-NoRoom.ensures e t at.at s in
-    (u, m, p, q, elim r [ inl x ↦ inl (omega (arith, x)) | inr w ↦ inr (elim w [ inl y ↦ omega (arith, y, c.split_at_mut-scratch.ensures.front_len) | inr z ↦ omega (arith, z, c.split_at_mut-scratch.ensures.back_len) ]) ])
-
-pub returns-in-NotYet : goal.returns-in-NotYet
-returns-in-NotYet c e t at s = let (i, d, q) = c.in-NotYet.ensures e t at.at s in absurd (at.plain i d q)
+pub returns-in_err-reduce : goal.returns-in_err-reduce
+returns-in_err-reduce c e t at s =
+    reduce_limited e c.args.aim c.args.count c.args.most c.args.heap.now c.args.at _ _ (length c.args.stack.now) t c.reduce.new.heap (omega (arith, c.split_at_mut-scratch.ensures.front_len)) (omega (arith, c.split_at_mut-scratch.ensures.back_len)) at.plain
+    c.in_err-reduce.field-0.0 c.from_residual.result c.from_residual.ensures.1 (c.in_err-reduce.ensures e t at.at s)

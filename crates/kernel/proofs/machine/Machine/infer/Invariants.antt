@@ -9,7 +9,7 @@ abbrev pub invariant-loop-turn : goal.invariant-loop-turn
 invariant-loop-turn l =
     let m = l.initial.self in
     let n = l.self in
-    ((k : Task) → Given k m.index.now m.store.now m.heap.now m.stack.now → Begins k m.terms.now m.context.now m.frames.now l.at l.names → k.most ≡ m.most
+    ((k : Task) → Given k m.env.index.now m.env.store.now m.heap.now m.stack.now → Begins k m.terms.now m.context.now m.frames.now l.at l.names → k.most ≡ m.most
     → Turned k m.terms.now n.context.now n.frames.now n.heap.now (Ok l.turn))
     × Keeps m n
 
