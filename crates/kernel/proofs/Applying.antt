@@ -1,5 +1,5 @@
 -- What follows from comparing the argument's type with the domain.
-use Rattle.std.proofs.Common.{◌≡◌, ℕ, suc, ◌+◌, ◌*◌, ◌<◌, ◌≤◌, ◌⊎◌, List, [], length, take, sym, ap, ◌∙◌, subst as tr, inl, inr, arith}
+use Rattle.std.proofs.Common.{◌≡◌, ℕ, suc, ◌+◌, ◌*◌, ◌<◌, ◌≤◌, ◌⊎◌, Bool, true, false, List, [], length, take, sym, ap, ◌∙◌, subst as tr, inl, inr, arith}
 use mathlib.Core.Option.{some}
 use Rattle.std.proofs.lemmas.List.{take-take}
 use Rattle.theory.specs.Terms.{Term, pi, app, subst, size}
@@ -11,8 +11,16 @@ use Rattle.terms.proofs.Appending.{append_keeps}
 use Rattle.theory.specs.Question.{TakesLonger, entry_size}
 use Rattle.kernel.specs.Inference.{Has, Untyped, NeedsMore, held}
 use Rattle.kernel.specs.Machine.{place, Task, Way, Sensible, Kept}
-use Rattle.kernel.specs.Resting.{OneForm, TwoForms, FullPair}
-use Rattle.kernel.specs.Turns.{Behind}
+use Rattle.std.specs.Prelude.{Some, None, Option as Maybe, Ok, Err, Result, IsErrAnd}
+use Rattle.std.proofs.lemmas.Result.{err_from_is_err_and}
+use Rattle.theory.specs.Environment.{Env}
+use Rattle.kernel.specs.Failures.{failure_of}
+use Rattle.kernel.specs.declared.failure.Failure.{Failure}
+use Rattle.kernel.specs.declared.failure.Limit.{Limit}
+use Rattle.kernel.specs.declared.failure.Limit.TheVariants as limit
+use Rattle.kernel.specs.declared.turn.Turn.{Turn}
+use Rattle.kernel.specs.Resting.{Agrees, Instance, OneForm, TwoForms, FullPair}
+use Rattle.kernel.specs.Turns.{Behind, Turned}
 use Rattle.kernel.proofs.Walk.{walk_context, app_up, app_up_same, none_arg}
 use Rattle.kernel.proofs.Room.{questioned, function_questioned, reached_start, reached_by}
 use Rattle.kernel.proofs.Tops.{appended_stands, appended_within, no_room}
@@ -85,3 +93,26 @@ module _ {k : Task} {g : List Term} {t c : Term} {y : Way k g t} {terms frames�
       let left = reached_by {n = d.worked.first.n + f.left_steps} (function_questioned s.covers d.way d.has) (domain_reaches k.env d.worked.first.n f.left_steps d.function_type d.worked.first.reaches f.left_reaches) (omega (arith, f.left_within, q, e)) in
       let right = reached_by {n = f.right_steps} (questioned s.covers y h) f.right_reaches (omega (arith, f.right_within, e)) in
       no_room y heap₂ s left right right (elim f.large [ inl a ↦ omega (arith, a, l) | inr b ↦ omega (arith, b, m) ])
+
+  -- Finding out meets a limit.
+  pub applied_limited : (steps most : ℕ) (heap₁ heap₂ after context terms₂ frames₂ : List ℕ) (stack : ℕ) → steps ≡ d.worked.first.n → k.most ≡ most → length heap₁ ≡ length heap₂ → top ≡ 3 * held y → length heap₁ ≤ stack
+      → (l : Limit) (r : Result Turn Failure) → IsErrAnd r (λ f. f ≡ failure_of l) → Agrees k.env steps most heap₁ top stack d.domain c after (Err l) → Turned k terms₂ context frames₂ heap₂ r
+  applied_limited steps most heap₁ heap₂ after context terms₂ frames₂ stack q e i l m limit.Spent r w a =
+      let (f, x, z) = err_from_is_err_and r w in rw (x, z) (applied_spent steps most q e a)
+  applied_limited steps most heap₁ heap₂ after context terms₂ frames₂ stack q e i l m limit.NoRoom r w a =
+      let (f, x, z) = err_from_is_err_and r w in rw (x, z) (applied_crowded steps most (length heap₁) (length heap₂) stack q e i l m a)
+
+-- The answer to the comparison.
+pub agrees_yes : (e : Env) (steps most : ℕ) (heap : List ℕ) (top stack : ℕ) (a c : Term) (after : List ℕ) (b : Bool) → b ≡ true → Agrees e steps most heap top stack a c after (Ok b)
+    → ((a ≡ c) ⊎ OneForm e a c) × (take top after ≡ take top heap)
+agrees_yes e steps most heap top stack a c after b p h = tr (λ (x : Bool). Agrees e steps most heap top stack a c after (Ok x)) p h
+
+pub agrees_no : (e : Env) (steps most : ℕ) (heap : List ℕ) (top stack : ℕ) (a c : Term) (after : List ℕ) (b : Bool) → b ≡ false → Agrees e steps most heap top stack a c after (Ok b) → TwoForms e a c
+agrees_no e steps most heap top stack a c after b p h = tr (λ (x : Bool). Agrees e steps most heap top stack a c after (Ok x)) p h
+
+-- The instance fits, or it does not.
+pub instance_some : {heap after : List ℕ} {kept stop : ℕ} {r : Maybe ℕ} (stack : ℕ) (v : Term) → r ≡ Some stop → Instance heap kept stack v after r → Appends heap kept (put v []) after stop
+instance_some {heap} {after} {kept} stack v p h = tr (Instance heap kept stack v after) p h
+
+pub instance_none : {stack : ℕ} {r : Maybe ℕ} (heap after : List ℕ) (kept : ℕ) (v : Term) → r ≡ None → Instance heap kept stack v after r → (length heap < kept + 3 * size v) ⊎ (stack < 6 * size v)
+instance_none {stack} heap after kept v p h = tr (Instance heap kept stack v after) p h

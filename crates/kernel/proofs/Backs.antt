@@ -1,5 +1,5 @@
 -- The walk behind a term: its type can be reduced, what follows where that fails, and the words of the frame on top.
-use Rattle.std.proofs.Common.{◌≡◌, ℕ, ◌+◌, ◌*◌, ◌<◌, ◌≤◌, List, ◌∷◌, length, take, drop, ap, ◌∙◌, subst as tr, inl, inr, arith, length-drop}
+use Rattle.std.proofs.Common.{◌≡◌, ℕ, ◌+◌, ◌*◌, ◌<◌, ◌≤◌, List, ◌∷◌, length, take, drop, ap, sym, ◌∙◌, subst as tr, inl, inr, arith, length-drop}
 use Rattle.theory.specs.Terms.{Term}
 use Rattle.theory.specs.Environment.{Env}
 use Rattle.theory.proofs.Closed.{wf_closed}
@@ -9,10 +9,22 @@ use Rattle.terms.specs.Writing.{Pushes}
 use Rattle.reduction.specs.Stepping.{ClosedEnv, StaysScoped, Ready}
 use Rattle.reduction.proofs.Staying.{typed_stays}
 use Rattle.theory.specs.Question.{TakesLonger, entry_size}
-use Rattle.kernel.specs.Inference.{Has, Zipper, NeedsMore, z_end, z_pi, z_under_pi, z_lam, z_under_lam, z_fun, z_arg, held}
+use Rattle.kernel.specs.Inference.{Has, Untyped, Zipper, NeedsMore, z_end, z_pi, z_under_pi, z_lam, z_under_lam, z_fun, z_arg, held}
 use Rattle.kernel.specs.Machine.{frame_words, kept_words, Task, Way, Sensible, Kept}
-use Rattle.kernel.specs.Reducing.{Overspent, Overfull}
-use Rattle.kernel.specs.Turns.{Behind, Given, Tagged}
+use Rattle.kernel.specs.Reducing.{Overspent, Overfull, Halts, NoSort, Sorts}
+use Rattle.reduction.specs.declared.reduce.Aim.TheVariants.{ToPi}
+use Rattle.kernel.specs.Failures.{failure_of}
+use Rattle.kernel.specs.declared.failure.Limit.{Limit}
+use Rattle.kernel.specs.declared.failure.Limit.TheVariants as limit
+use Rattle.kernel.proofs.Reduced.{used_up}
+use Rattle.std.specs.Prelude.{Err, Result, IsErrAnd}
+use Rattle.std.proofs.lemmas.Result.{err_from_is_err_and}
+use Rattle.kernel.specs.declared.failure.Failure.{Failure}
+use Rattle.kernel.specs.declared.failure.Failure.TheVariants.{Refused, Spent, NoRoom}
+use Rattle.kernel.specs.declared.turn.Turn.{Turn}
+use Rattle.kernel.specs.Turns.{Behind, Given, Tagged, Turned}
+use Rattle.kernel.specs.Frames.{kind_word}
+use Rattle.kernel.specs.declared.frames.Kind.{Kind}
 use Rattle.kernel.specs.declared.turn.Spot.{Spot}
 use Rattle.kernel.proofs.Walk.{walk_context}
 use Rattle.kernel.proofs.Room.{questioned, reached_by}
@@ -49,6 +61,26 @@ type_full z heap heap₂ top stack s h p l m o =
     let r = reached_by (questioned s.covers z h) o.reaches o.within in
     no_room z heap₂ s r r r (elim o.large [ inl a ↦ omega (arith, a, p) | inr b ↦ omega (arith, b) ])
 
+-- What follows where it comes to no sort, or to no end.
+pub type_limited : {k : Task} {g : List Term} {t c : Term} (z : Way k g t) {top : ℕ} (most : ℕ) (heap after heap₂ terms context frames₁ : List ℕ) (stack : ℕ) → Sensible k → Has k.env g t c → top ≡ 3 * held z → k.most ≡ most
+    → length heap ≡ length heap₂ → length heap ≤ stack → (f : Failure) (r : Result Turn Failure) → IsErrAnd r (λ d. d ≡ f) → (NoSort k.env c → Untyped k.env k.context k.term)
+    → Sorts k.env most heap top stack c after (Err f) → Turned k terms context frames₁ heap₂ r
+type_limited z most heap after heap₂ terms context frames₁ stack s h p e l m Refused r w other o =
+    let (d, q, i) = err_from_is_err_and r w in rw (q, i) (other o)
+type_limited {k} {c} z most heap after heap₂ terms context frames₁ stack s h p e l m Spent r w other o =
+    let (d, q, i) = err_from_is_err_and r w in rw (q, i) (type_spent z s h (tr (λ (n : ℕ). Overspent k.env n c) (sym e) o))
+type_limited {k} {c} z {top} most heap after heap₂ terms context frames₁ stack s h p e l m NoRoom r w other o =
+    let (d, q, i) = err_from_is_err_and r w in rw (q, i) (type_full z (length heap) (length heap₂) top stack s h p l m (tr (λ (n : ℕ). Overfull k.env n (length heap) top stack c) (sym e) o))
+
+-- The same for a function type.
+pub halts_limited : {k : Task} {g : List Term} {t c : Term} (z : Way k g t) {top : ℕ} (most : ℕ) (heap after heap₂ terms context frames₁ : List ℕ) (stack : ℕ) → Sensible k → Has k.env g t c → top ≡ 3 * held z → k.most ≡ most
+    → length heap ≡ length heap₂ → length heap ≤ stack → (l : Limit) (r : Result Turn Failure) → IsErrAnd r (λ d. d ≡ failure_of l)
+    → Halts k.env ToPi 0 most heap top stack c after (Err l) → Turned k terms context frames₁ heap₂ r
+halts_limited {k} {c} z most heap after heap₂ terms context frames₁ stack s h p e l m limit.Spent r w (u, n, x, y) =
+    let (d, q, i) = err_from_is_err_and r w in rw (q, i) (type_spent z s h (used_up k.env k.most c u n (omega (arith, x, e)) y))
+halts_limited z {top} most heap after heap₂ terms context frames₁ stack s h p e l m limit.NoRoom r w (u, n, x, y, v) =
+    let (d, q, i) = err_from_is_err_and r w in rw (q, i) (type_full z (length heap) (length heap₂) top stack s h p l m (record { term = u; steps = n; within = omega (arith, x, e); reaches = y; large = v }))
+
 -- The frame on top has at least three words.
 frame_three : {e : Env} {most : ℕ} {g₀ : List Term} {t₀ : Term} {g : List Term} {t : Term} (z : Zipper e most g₀ t₀ g t) (p : ℕ) → 0 < length (frame_words p z) → 3 ≤ length (frame_words p z)
 frame_three z_end p l = omega arith
@@ -62,8 +94,8 @@ frame_three (z_arg z h w) p l = omega arith
 pub top_frame : {k : Task} {g : List Term} {t : Term} (z : Way k g t) {terms context frames₁ heap : List ℕ} {names free top : ℕ} → Kept k z terms context frames₁ heap names free top → free < length frames₁ → free + 3 ≤ length frames₁
 top_frame {k} z {frames₁} {free} h l = omega (arith, length-drop free frames₁, ap length h.frames_at, frame_three z k.start (omega (arith, length-drop free frames₁, ap length h.frames_at)))
 
-pub top_view : {k : Task} {g : List Term} {t : Term} (z : Way k g t) {terms context frames₁ heap : List ℕ} {names free top tag : ℕ} → Kept k z terms context frames₁ heap names free top → Tagged frames₁ free tag
-    → FrameView k.env k.most k.context k.term g t z tag
+pub top_view : {k : Task} {g : List Term} {t : Term} (z : Way k g t) {terms context frames₁ heap : List ℕ} {names free top : ℕ} {kind : Kind} → Kept k z terms context frames₁ heap names free top → Tagged frames₁ free kind
+    → FrameView k.env k.most k.context k.term g t z (kind_word kind)
 top_view {k} z {frames₁} {free} h w = tr (FrameView _ _ _ _ _ _ z) w.is (frame_view z k.start free frames₁ h.frames_at w.below)
 
 -- One name more.

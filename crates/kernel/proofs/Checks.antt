@@ -1,5 +1,5 @@
 -- The terms of an entry as tasks of inference, and what their answers say of the entry.
-use Rattle.std.proofs.Common.{◌≡◌, ℕ, suc, ◌+◌, ◌*◌, ◌<◌, ◌≤◌, ◌⊎◌, List, [], length, refl, ap, ◌∙◌, subst as tr, inl, inr, arith}
+use Rattle.std.proofs.Common.{◌≡◌, ℕ, Bool, true, false, suc, ◌+◌, ◌*◌, ◌<◌, ◌≤◌, ◌⊎◌, List, [], length, sym, refl, ap, ◌∙◌, subst as tr, inl, inr, arith}
 use mathlib.Core.Option.{some}
 use Rattle.std.proofs.lemmas.List.{drop_all}
 use Rattle.theory.specs.Terms.{Term, sort, size, depth}
@@ -13,15 +13,21 @@ use Rattle.terms.proofs.Appending.{append_keeps}
 use Rattle.theory.specs.Question.{mentioned, type_of, of_body, of_type, of_assumed, TakesLonger, entry_size, entry_depth}
 use Rattle.kernel.specs.Inference.{Has, Covers, NeedsMore, z_end}
 use Rattle.kernel.specs.Machine.{Core, Task, Sensible}
-use Rattle.kernel.specs.Reducing.{NoSort}
+use Rattle.kernel.specs.Reducing.{NoSort, Overspent, Overfull, Sorts}
 use Rattle.kernel.specs.Resting.{Agrees, OneForm, TwoForms, FullPair}
-use Rattle.kernel.specs.Turns.{Given}
-use Rattle.kernel.specs.Answers.{Begins}
-use Rattle.kernel.specs.Checking.{Checkable, OfSort, Checks}
-use Rattle.kernel.specs.declared.agree.Agreement.{Agreement}
-use Rattle.kernel.specs.declared.agree.Agreement.TheVariants as agreement
-use Rattle.kernel.specs.declared.check.Checked.{Checked}
-use Rattle.kernel.specs.declared.check.Checked.TheVariants.{Holds, Refused, Spent, NoRoom}
+use Rattle.kernel.specs.Turns.{Given, Keeps}
+use Rattle.kernel.specs.Answers.{Answers, Begins}
+use Rattle.kernel.specs.Checking.{Checkable, Fits, OfSort, Checks}
+use Rattle.std.specs.Prelude.{Ok, Err, Result, IsErrAnd, ⊤}
+use Rattle.std.proofs.lemmas.Result.{err_from_is_err_and}
+use Rattle.kernel.specs.Environments.{PlainAt}
+use Rattle.kernel.specs.Failures.{failure_of}
+use Rattle.kernel.specs.declared.machine.Machine.{Machine}
+use Rattle.kernel.proofs.Backs.{type_spent, type_full}
+use Rattle.kernel.specs.declared.failure.Failure.{Failure}
+use Rattle.kernel.specs.declared.failure.Failure.TheVariants.{Refused, Spent, NoRoom}
+use Rattle.kernel.specs.declared.failure.Limit.{Limit}
+use Rattle.kernel.specs.declared.failure.Limit.TheVariants as limit
 use Rattle.kernel.proofs.Room.{reached_start, reached_by}
 use Rattle.kernel.proofs.Tops.{no_room}
 
@@ -75,24 +81,56 @@ checkable_later f p q r s = record {
   stack_room = omega (arith, f.stack_room, r, s);
 }
 
+-- Another machine that reads the same.
+module _ {m n : Machine} (p : Keeps m n) where
+  pub kept_stored : {e : Env} → PlainAt m.env.index.now m.env.store.now e → PlainAt n.env.index.now n.env.store.now e
+  kept_stored {e} s = tr (λ (x : Machine). PlainAt x.env.index.now x.env.store.now e) (sym p.read) s
+
+  pub kept_term : {at : ℕ} {a : Term} {r : List ℕ} → At m.terms.now at a r → At n.terms.now at a r
+  kept_term {at} {a} {r} h = tr (λ (x : Machine). At x.terms.now at a r) (sym p.read) h
+
+  pub kept_most : n.most ≡ m.most
+  kept_most = ap (λ (x : Machine). x.most) p.read
+
+  pub kept_fits : {e : Env} {c : Entry} → Fits e c m → Fits e c n
+  kept_fits {e} {c} f =
+      let g : Checkable e c m.env.index.now m.env.store.now n.context.now n.frames.now n.heap.now n.stack.now = checkable_later f (sym p.context) (sym p.frames) (sym p.heap) (sym p.stack) in
+      tr (λ (x : Machine). Checkable e c x.env.index.now x.env.store.now n.context.now n.frames.now n.heap.now n.stack.now) (sym p.read) g
+
 -- A term whose type comes to no sort.
 pub not_sorted : {k : Task} {x : Term} → Sensible k → Has k.env k.context k.term x → NoSort k.env x → ((i : ℕ) × HasType k.env k.context k.term (sort i)) → ⊥
 not_sorted s h n (i, r) = sort_no s.wf s.ctx h.of n.normal n.other r
 
+-- Or to no end.
+pub level_failed : {k : Task} {x : Term} (most : ℕ) (heap after : List ℕ) (heap₂ stack : ℕ) → Sensible k → Has k.env k.context k.term x → k.most ≡ most → length heap ≡ heap₂ → length heap ≤ stack
+    → (f : Failure) (r : Result ⊤ Failure) → IsErrAnd r (λ d. d ≡ f) → Sorts k.env most heap 0 stack x after (Err f) → OfSort k heap₂ r
+level_failed {k} most heap after heap₂ stack s h e l m Refused r w o = let (d, p, q) = err_from_is_err_and r w in rw (p, q) (not_sorted {k = k} s h o)
+level_failed {k} {x} most heap after heap₂ stack s h e l m Spent r w o =
+    let (d, p, q) = err_from_is_err_and r w in rw (p, q) (type_spent {k = k} z_end s h (tr (λ (n : ℕ). Overspent k.env n x) (sym e) o))
+level_failed {k} {x} most heap after heap₂ stack s h e l m NoRoom r w o =
+    let (d, p, q) = err_from_is_err_and r w in
+    rw (p, q) (type_full {k = k} z_end (length heap) heap₂ 0 stack s h refl l m (tr (λ (n : ℕ). Overfull k.env n (length heap) 0 stack x) (sym e) o))
+
+-- No type is inferred.
+pub sort_failed : (k : Task) (heap : List ℕ) (heap₂ : ℕ) (f : Failure) (r : Result ⊤ Failure) → IsErrAnd r (λ d. d ≡ f) → length heap ≡ heap₂ → Answers k heap (Err f) → OfSort k heap₂ r
+sort_failed k heap heap₂ Refused r w l o = let (d, p, q) = err_from_is_err_and r w in rw (p, q) (λ (i, h). o _ h)
+sort_failed k heap heap₂ Spent r w l o = let (d, p, q) = err_from_is_err_and r w in rw (p, q) o
+sort_failed k heap heap₂ NoRoom r w l o = let (d, p, q) = err_from_is_err_and r w in rw (p, q) (tr (λ (n : ℕ). NeedsMore k.env k.entry k.most (16 * entry_size k.entry + 2 * n)) l o)
+
 -- The answer about an axiom's type is the one about the axiom.
-pub axiom_checks : (e : Env) (a : Term) (most heap p : ℕ) (r : List ℕ) (o : Checked) → OfSort (task e (assumed a) most a p r) heap o → Checks e (assumed a) most heap o
-axiom_checks e a most heap p r Holds h = h
-axiom_checks e a most heap p r Refused h = h
-axiom_checks e a most heap p r Spent h = h
-axiom_checks e a most heap p r NoRoom h = h
+pub axiom_checks : (e : Env) (a : Term) (most heap p : ℕ) (r : List ℕ) (o : Result ⊤ Failure) → OfSort (task e (assumed a) most a p r) heap o → Checks e (assumed a) most heap o
+axiom_checks e a most heap p r (Ok done) h = h
+axiom_checks e a most heap p r (Err Refused) h = h
+axiom_checks e a most heap p r (Err Spent) h = h
+axiom_checks e a most heap p r (Err NoRoom) h = h
 
 -- What was compared after copying the second type.
-pub agrees_copied : (e : Env) (most : ℕ) (h₀ h₁ h₂ : List ℕ) (top end stack stack₂ : ℕ) (b a : Term) (o : Agreement) → top ≤ length h₀ → Appends h₀ top (put a []) h₁ end → length h₀ ≡ length h₁ → stack ≡ stack₂
+pub agrees_copied : (e : Env) (most : ℕ) (h₀ h₁ h₂ : List ℕ) (top end stack stack₂ : ℕ) (b a : Term) (o : Result Bool Limit) → top ≤ length h₀ → Appends h₀ top (put a []) h₁ end → length h₀ ≡ length h₁ → stack ≡ stack₂
     → Agrees e 0 most h₁ top stack₂ b a h₂ o → Agrees e 0 most h₀ top stack b a h₂ o
-agrees_copied e most h₀ h₁ h₂ top end stack stack₂ b a agreement.Same l w p q (s, k) = (s, k ∙ append_keeps h₀ h₁ top end top (put a []) (omega arith) l w)
-agrees_copied e most h₀ h₁ h₂ top end stack stack₂ b a agreement.Different l w p q h = h
-agrees_copied e most h₀ h₁ h₂ top end stack stack₂ b a agreement.Spent l w p q h = h
-agrees_copied e most h₀ h₁ h₂ top end stack stack₂ b a agreement.NoRoom l w p q h = record {
+agrees_copied e most h₀ h₁ h₂ top end stack stack₂ b a (Ok true) l w p q (s, k) = (s, k ∙ append_keeps h₀ h₁ top end top (put a []) (omega arith) l w)
+agrees_copied e most h₀ h₁ h₂ top end stack stack₂ b a (Ok false) l w p q h = h
+agrees_copied e most h₀ h₁ h₂ top end stack stack₂ b a (Err limit.Spent) l w p q h = h
+agrees_copied e most h₀ h₁ h₂ top end stack stack₂ b a (Err limit.NoRoom) l w p q h = record {
   left_term = h.left_term;
   left_steps = h.left_steps;
   left_within = h.left_within;
@@ -137,3 +175,21 @@ module _ {e : Env} {t a b : Term} {i : ℕ} {index store context frames₁ heap 
       let right = reached_by {n = o.right_steps} (mentioned (of_type whole)) o.right_reaches o.right_within in
       no_room {k = task e (defined t a) most t 0 []} z_end heap₂ (task_sensible (definition_body f.core.0) f most 0 []) inferred left right
       (elim o.large [ inl x ↦ omega (arith, x, p, q) | inr y ↦ omega (arith, y, p, l) ])
+
+  pub body_limited : (most most₁ : ℕ) (heap after : List ℕ) (heap₂ top stack₁ : ℕ) → most₁ ≡ most → length heap ≡ heap₂ → length heap ≤ stack₁ → top ≡ 3 * size b
+      → (l : Limit) (r : Result ⊤ Failure) → IsErrAnd r (λ d. d ≡ failure_of l) → Agrees e 0 most₁ heap top stack₁ b a after (Err l) → Checks e (defined t a) most heap₂ r
+  body_limited most most₁ heap after heap₂ top stack₁ z p l q limit.Spent r w o =
+      let (d, x, y) = err_from_is_err_and r w in rw (x, y) (body_spent most (tr (λ (n : ℕ). Agrees e 0 n heap top stack₁ b a after (Err limit.Spent)) z o))
+  body_limited most most₁ heap after heap₂ top stack₁ z p l q limit.NoRoom r w o =
+      let (d, x, y) = err_from_is_err_and r w in rw (x, y) (body_full most (length heap) heap₂ top stack₁ p l q (tr (λ (n : ℕ). FullPair e 0 n (length heap) top stack₁ b a) z o))
+
+-- The body has no type, or the type is of no sort.
+pub body_failed : (e : Env) (t a : Term) (p : ℕ) (y : List ℕ) (most : ℕ) (heap : List ℕ) (f : Failure) (r : Result ⊤ Failure) → IsErrAnd r (λ d. d ≡ f) → Answers (task e (defined t a) most t p y) heap (Err f) → Checks e (defined t a) most (length heap) r
+body_failed e t a p y most heap Refused r w o = let (d, x, z) = err_from_is_err_and r w in rw (x, z) (λ (i, s, q). o a q)
+body_failed e t a p y most heap Spent r w o = let (d, x, z) = err_from_is_err_and r w in rw (x, z) o
+body_failed e t a p y most heap NoRoom r w o = let (d, x, z) = err_from_is_err_and r w in rw (x, z) o
+
+pub type_failed : (e : Env) (t a : Term) (p : ℕ) (y : List ℕ) (most heap : ℕ) (f : Failure) (r : Result ⊤ Failure) → IsErrAnd r (λ d. d ≡ f) → OfSort (task e (defined t a) most a p y) heap (Err f) → Checks e (defined t a) most heap r
+type_failed e t a p y most heap Refused r w o = let (d, x, z) = err_from_is_err_and r w in rw (x, z) (λ (i, s, q). o (i, s))
+type_failed e t a p y most heap Spent r w o = let (d, x, z) = err_from_is_err_and r w in rw (x, z) o
+type_failed e t a p y most heap NoRoom r w o = let (d, x, z) = err_from_is_err_and r w in rw (x, z) o

@@ -26,6 +26,9 @@ use Rattle.kernel.proofs.Views.{View, v_pi, v_lam, v_app}
 pub before_at : {k : Task} {terms context frames₁ heap : List ℕ} {s : Spot} (b : Before k terms context frames₁ heap s) → At terms s.at b.term (behind k.rest b.way)
 before_at {k} {terms} b = rw b.at (walk_at terms k.start k.rest b.kept.stands b.way)
 
+pub before_within : {k : Task} {terms context frames₁ heap : List ℕ} {s : Spot} → Before k terms context frames₁ heap s → s.at + 3 ≤ length terms
+before_within {terms} {s} b = omega (arith, at_length terms s.at b.term _ (before_at b), size-parts b.term)
+
 -- There is room for one more frame and for one more name.
 pub frame-room : {k : Task} {g : List Term} {t : Term} {z : Way k g t} {terms context frames₁ heap : List ℕ} {names free top : ℕ} → Kept k z terms context frames₁ heap names free top → 7 ≤ free
 frame-room {k} {t} {z} {frames₁} {free} h =

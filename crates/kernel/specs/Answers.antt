@@ -1,5 +1,5 @@
 -- The answers of inference and of checking a declaration, each with the fact that it stands for.
-use Rattle.std.specs.Prelude.{◌≡◌, ℕ, ◌+◌, ◌*◌, ◌≤◌, List, length, drop}
+use Rattle.std.specs.Prelude.{◌≡◌, ℕ, ◌+◌, ◌*◌, ◌≤◌, List, length, drop, Ok, Err, Result}
 use Rattle.theory.specs.Terms.{Term, size}
 use Rattle.terms.specs.Words.{At}
 use Rattle.reduction.specs.Stepping.{Stands}
@@ -7,8 +7,9 @@ use Rattle.theory.specs.Question.{TakesLonger, entry_size}
 use Rattle.kernel.specs.Inference.{Has, Untyped, NeedsMore}
 use Rattle.kernel.specs.Machine.{ContextAt, Task}
 use Rattle.kernel.specs.Turns.{Given}
-use Rattle.kernel.specs.declared.infer.Inferred.{Inferred}
-use Rattle.kernel.specs.declared.infer.Inferred.TheVariants.{Found, Refused, Spent, NoRoom}
+use Rattle.kernel.specs.declared.machine.Machine.{Machine}
+use Rattle.kernel.specs.declared.failure.Failure.{Failure}
+use Rattle.kernel.specs.declared.failure.Failure.TheVariants.{Refused, Spent, NoRoom}
 
 -- The term of the task stands there, with its context, and there is room for frames and names.
 pub record Begins (k : Task) (terms context frames : List ℕ) (at names : ℕ) : Type 0 where
@@ -19,15 +20,15 @@ pub record Begins (k : Task) (terms context frames : List ℕ) (at names : ℕ) 
   pub names_room : 2 * (length k.context + size k.term) ≤ length context
   pub frames_room : 7 * size k.term ≤ length frames
 
-pub record CanInfer (index store terms context frames heap stack : List ℕ) (at names most : ℕ) : Type 0 where
+pub record CanInfer (m : Machine) (at names : ℕ) : Type 0 where
   pub task : Task
-  pub given : Given task index store heap stack
-  pub begins : Begins task terms context frames at names
-  pub steps : task.most ≡ most
+  pub given : Given task m.env.index.now m.env.store.now m.heap.now m.stack.now
+  pub begins : Begins task m.terms.now m.context.now m.frames.now at names
+  pub steps : task.most ≡ m.most
 
 -- A type, which is the inferred one and stands on the heap; no type at all; a term in question with more steps; one with more room.
-abbrev pub Answers : Task → List ℕ → Inferred → Type 0
-Answers k heap (Found end) = (c : Term) × Has k.env k.context k.term c × Stands heap 0 c end × (end ≤ length heap)
-Answers k heap Refused = Untyped k.env k.context k.term
-Answers k heap Spent = TakesLonger k.env k.entry k.most
-Answers k heap NoRoom = NeedsMore k.env k.entry k.most (16 * entry_size k.entry + 2 * length heap)
+abbrev pub Answers : Task → List ℕ → Result ℕ Failure → Type 0
+Answers k heap (Ok end) = (c : Term) × Has k.env k.context k.term c × Stands heap 0 c end × (end ≤ length heap)
+Answers k heap (Err Refused) = Untyped k.env k.context k.term
+Answers k heap (Err Spent) = TakesLonger k.env k.entry k.most
+Answers k heap (Err NoRoom) = NeedsMore k.env k.entry k.most (16 * entry_size k.entry + 2 * length heap)

@@ -1,5 +1,6 @@
 -- What is in question while a declaration is checked; inference as a walk; the answers.
 pub mod Environments
+pub mod Failures
 pub mod Inference
 pub mod Frames
 pub mod Machine

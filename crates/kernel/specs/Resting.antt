@@ -1,5 +1,5 @@
 -- What reducing to normal forms and comparing them promises.
-use Rattle.std.specs.Prelude.{◌≡◌, ℕ, suc, ◌+◌, ◌*◌, ◌^◌, ◌<◌, ◌≤◌, ◌⊎◌, List, [], length, take, Some, None, Option as Maybe, ◌≢◌}
+use Rattle.std.specs.Prelude.{◌≡◌, ℕ, suc, ◌+◌, ◌*◌, ◌^◌, ◌<◌, ◌≤◌, ◌⊎◌, List, [], length, take, Bool, true, false, Some, None, Option as Maybe, Ok, Err, Result, ◌≢◌}
 use Rattle.std.proofs.Math.Option.{some}
 use Rattle.theory.specs.Terms.{Term, pi, size}
 use Rattle.theory.specs.Environment.{Env}
@@ -9,16 +9,14 @@ use Rattle.terms.specs.Words.{put, At}
 use Rattle.terms.specs.Writing.{Appends}
 use Rattle.reduction.specs.Stepping.{ClosedEnv, StaysScoped, Stands}
 use Rattle.kernel.specs.Environments.{PlainAt}
-use Rattle.kernel.specs.declared.rested.Rested.{Rested}
-use Rattle.kernel.specs.declared.rested.Rested.TheVariants.{Normal, Spent, NoRoom}
-use Rattle.kernel.specs.declared.agree.Agreement.{Agreement}
-use Rattle.kernel.specs.declared.agree.Agreement.TheVariants.{Same, Different, Spent as Long, NoRoom as Large}
+use Rattle.kernel.specs.declared.failure.Limit.{Limit}
+use Rattle.kernel.specs.declared.failure.Limit.TheVariants.{Spent, NoRoom}
 
 -- The normal form of t, with count steps taken before; or too many steps; or no room.
-abbrev pub Rests : Env → ℕ → ℕ → List ℕ → ℕ → ℕ → Term → List ℕ → Rested → Type 0
-Rests e count most heap at stack t after (Normal end) = (u : Term) × (f : NormalForm e t u) × (count + f.n ≤ most) × Appends heap at (put u []) after end
-Rests e count most heap at stack t after Spent = (u : Term) × (m : ℕ) × (count + m ≡ suc most) × (normal_steps e m t ≡ some u)
-Rests e count most heap at stack t after NoRoom = (u : Term) × (m : ℕ) × (count + m ≤ most) × (normal_steps e m t ≡ some u) × ((length heap < at + 6 * size u) ⊎ (stack < 6 * size u))
+abbrev pub Rests : Env → ℕ → ℕ → List ℕ → ℕ → ℕ → Term → List ℕ → Result ℕ Limit → Type 0
+Rests e count most heap at stack t after (Ok end) = (u : Term) × (f : NormalForm e t u) × (count + f.n ≤ most) × Appends heap at (put u []) after end
+Rests e count most heap at stack t after (Err Spent) = (u : Term) × (m : ℕ) × (count + m ≡ suc most) × (normal_steps e m t ≡ some u)
+Rests e count most heap at stack t after (Err NoRoom) = (u : Term) × (m : ℕ) × (count + m ≤ most) × (normal_steps e m t ≡ some u) × ((length heap < at + 6 * size u) ⊎ (stack < 6 * size u))
 
 -- The term a is written above, or the heap or the stack is too short for it.
 abbrev pub Above : List ℕ → ℕ → ℕ → Term → List ℕ → Maybe ℕ → Type 0
@@ -73,18 +71,18 @@ pub record FullPair (e : Env) (steps most heap top stack : ℕ) (a c : Term) : T
   pub large : (heap < top + (6 * size left_term + 6 * size right_term)) ⊎ (stack < 6 * size left_term + 6 * size right_term)
 
 -- Whether a, to which steps were taken before, and c are convertible; the words below `top` are kept.
-abbrev pub Agrees : Env → ℕ → ℕ → List ℕ → ℕ → ℕ → Term → Term → List ℕ → Agreement → Type 0
-Agrees e steps most heap top stack a c after Same = ((a ≡ c) ⊎ OneForm e a c) × (take top after ≡ take top heap)
-Agrees e steps most heap top stack a c after Different = TwoForms e a c
-Agrees e steps most heap top stack a c after Long = ((u : Term) × (m : ℕ) × (0 + m ≡ suc most) × (normal_steps e m c ≡ some u)) ⊎ ((u : Term) × (m : ℕ) × (steps + m ≡ suc most) × (normal_steps e m a ≡ some u))
-Agrees e steps most heap top stack a c after Large = FullPair e steps most (length heap) top stack a c
+abbrev pub Agrees : Env → ℕ → ℕ → List ℕ → ℕ → ℕ → Term → Term → List ℕ → Result Bool Limit → Type 0
+Agrees e steps most heap top stack a c after (Ok true) = ((a ≡ c) ⊎ OneForm e a c) × (take top after ≡ take top heap)
+Agrees e steps most heap top stack a c after (Ok false) = TwoForms e a c
+Agrees e steps most heap top stack a c after (Err Spent) = ((u : Term) × (m : ℕ) × (0 + m ≡ suc most) × (normal_steps e m c ≡ some u)) ⊎ ((u : Term) × (m : ℕ) × (steps + m ≡ suc most) × (normal_steps e m a ≡ some u))
+Agrees e steps most heap top stack a c after (Err NoRoom) = FullPair e steps most (length heap) top stack a c
 
 -- The same where c is normal.
-abbrev pub AgreesNormal : Env → ℕ → ℕ → List ℕ → ℕ → ℕ → Term → Term → List ℕ → Agreement → Type 0
-AgreesNormal e steps most heap top stack a c after Same = NormalForm e a c × (take top after ≡ take top heap)
-AgreesNormal e steps most heap top stack a c after Different = (n : Term) × NormalForm e a n × (n ≢ c)
-AgreesNormal e steps most heap top stack a c after Long = (u : Term) × (m : ℕ) × (steps + m ≡ suc most) × (normal_steps e m a ≡ some u)
-AgreesNormal e steps most heap top stack a c after Large =
+abbrev pub AgreesNormal : Env → ℕ → ℕ → List ℕ → ℕ → ℕ → Term → Term → List ℕ → Result Bool Limit → Type 0
+AgreesNormal e steps most heap top stack a c after (Ok true) = NormalForm e a c × (take top after ≡ take top heap)
+AgreesNormal e steps most heap top stack a c after (Ok false) = (n : Term) × NormalForm e a n × (n ≢ c)
+AgreesNormal e steps most heap top stack a c after (Err Spent) = (u : Term) × (m : ℕ) × (steps + m ≡ suc most) × (normal_steps e m a ≡ some u)
+AgreesNormal e steps most heap top stack a c after (Err NoRoom) =
     (u : Term) × (m : ℕ) × (steps + m ≤ most) × (normal_steps e m a ≡ some u) × ((length heap < top + (6 * size u + 3 * size c)) ⊎ (stack < 6 * size u))
 
 -- A function type stands there.

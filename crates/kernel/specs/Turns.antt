@@ -1,5 +1,5 @@
 -- What a turn of the loop of inference starts from and what it leads to.
-use Rattle.std.specs.Prelude.{◌≡◌, ℕ, ◌+◌, ◌-◌, ◌*◌, ◌<◌, ◌≤◌, List, length, slice_index_or}
+use Rattle.std.specs.Prelude.{◌≡◌, ℕ, ◌+◌, ◌-◌, ◌*◌, ◌<◌, ◌≤◌, List, length, slice_index_or, Ok, Err, Result}
 use Rattle.theory.specs.Terms.{Term, size}
 use Rattle.reduction.specs.Stepping.{Stands}
 use Rattle.kernel.specs.Environments.{PlainAt}
@@ -8,7 +8,12 @@ use Rattle.kernel.specs.Inference.{Has, Untyped, NeedsMore}
 use Rattle.kernel.specs.Machine.{place, Task, Way, Sensible, Kept}
 use Rattle.kernel.specs.declared.turn.Spot.{Spot}
 use Rattle.kernel.specs.declared.turn.Turn.{Turn}
-use Rattle.kernel.specs.declared.turn.Turn.TheVariants.{Down, Back, Refused, Spent, NoRoom}
+use Rattle.kernel.specs.declared.turn.Turn.TheVariants.{Down, Back}
+use Rattle.kernel.specs.declared.failure.Failure.{Failure}
+use Rattle.kernel.specs.declared.failure.Failure.TheVariants.{Refused, Spent, NoRoom}
+use Rattle.kernel.specs.declared.frames.Kind.{Kind}
+use Rattle.kernel.specs.declared.machine.Machine.{Machine}
+use Rattle.kernel.specs.Frames.{kind_word}
 
 -- The walk stands before a term.
 pub record Before (k : Task) (terms context frames heap : List ℕ) (s : Spot) : Type 0 where
@@ -36,63 +41,62 @@ pub record Given (k : Task) (index store heap stack : List ℕ) : Type 0 where
   pub stored : PlainAt index store k.env
   pub stack_room : length heap ≤ length stack
 
+-- Behind the node at the spot; without the name and the frame of a second part.
+abbrev pub past : Spot → Spot
+past s = record s { at = s.at + 3 }
+
+abbrev pub unbound : Spot → Spot
+unbound s = record s { names = s.names + 2; free = s.free + 3 }
+
 -- What a turn leads to.
-abbrev pub Turned : Task → List ℕ → List ℕ → List ℕ → List ℕ → Turn → Type 0
-Turned k terms context frames heap (Down s) = Before k terms context frames heap s
-Turned k terms context frames heap (Back s end) = Behind k terms context frames heap s end
-Turned k terms context frames heap Refused = Untyped k.env k.context k.term
-Turned k terms context frames heap Spent = TakesLonger k.env k.entry k.most
-Turned k terms context frames heap NoRoom = NeedsMore k.env k.entry k.most (16 * entry_size k.entry + 2 * length heap)
+abbrev pub Turned : Task → List ℕ → List ℕ → List ℕ → List ℕ → Result Turn Failure → Type 0
+Turned k terms context frames heap (Ok (Down s)) = Before k terms context frames heap s
+Turned k terms context frames heap (Ok (Back s end)) = Behind k terms context frames heap s end
+Turned k terms context frames heap (Err Refused) = Untyped k.env k.context k.term
+Turned k terms context frames heap (Err Spent) = TakesLonger k.env k.entry k.most
+Turned k terms context frames heap (Err NoRoom) = NeedsMore k.env k.entry k.most (16 * entry_size k.entry + 2 * length heap)
 
 -- A turn down, or back, can be made.
-pub record CanGo (index store terms context frames heap stack : List ℕ) (s : Spot) : Type 0 where
+pub record CanGo (m : Machine) (s : Spot) : Type 0 where
   pub task : Task
-  pub given : Given task index store heap stack
-  pub before : Before task terms context frames heap s
+  pub given : Given task m.env.index.now m.env.store.now m.heap.now m.stack.now
+  pub before : Before task m.terms.now m.context.now m.frames.now m.heap.now s
 
-pub record CanReturn (index store terms context frames heap stack : List ℕ) (s : Spot) (end most : ℕ) : Type 0 where
+pub record CanReturn (m : Machine) (s : Spot) (end : ℕ) : Type 0 where
   pub task : Task
-  pub given : Given task index store heap stack
-  pub behind : Behind task terms context frames heap s end
-  pub steps : task.most ≡ most
+  pub given : Given task m.env.index.now m.env.store.now m.heap.now m.stack.now
+  pub behind : Behind task m.terms.now m.context.now m.frames.now m.heap.now s end
+  pub steps : task.most ≡ m.most
 
--- A frame with this tag stands on top.
-pub record Tagged (frames : List ℕ) (free tag : ℕ) : Type 0 where
+-- A frame of this kind stands on top.
+pub record Tagged (frames : List ℕ) (free : ℕ) (kind : Kind) : Type 0 where
   pub below : free < length frames
-  pub is : slice_index_or frames free 0 ≡ tag
+  pub is : slice_index_or frames free 0 ≡ kind_word kind
 
--- A turn back can be made, for terms that stand somewhere.
-pub record CanBack (index store context frames heap stack : List ℕ) (s : Spot) (end most : ℕ) : Type 0 where
-  pub terms : List ℕ
-  pub can : CanReturn index store terms context frames heap stack s end most
+-- What is read stays as it is, and so do the numbers of words.
+pub record Keeps (m n : Machine) : Type 0 where
+  pub read : n ≡ record m { context = n.context; frames = n.frames; heap = n.heap; stack = n.stack }
+  pub context : length n.context.now ≡ length m.context.now
+  pub frames : length n.frames.now ≡ length m.frames.now
+  pub heap : length n.heap.now ≡ length m.heap.now
+  pub stack : length n.stack.now ≡ length m.stack.now
 
--- The same for a context that stands somewhere too.
-pub record CanPop (index store frames heap stack : List ℕ) (s : Spot) (end most : ℕ) : Type 0 where
-  pub context : List ℕ
-  pub back : CanBack index store context frames heap stack s end most
+-- What a turn down, or back, promises.
+abbrev pub Goes : Machine → Spot → Machine → Result Turn Failure → Type 0
+Goes m s n r =
+    (k : Task) → Given k m.env.index.now m.env.store.now m.heap.now m.stack.now → Before k m.terms.now m.context.now m.frames.now m.heap.now s
+    → Turned k m.terms.now n.context.now n.frames.now n.heap.now r
 
-pub record CanEnd (index store terms frames heap stack : List ℕ) (s : Spot) (end most : ℕ) : Type 0 where
-  pub context : List ℕ
-  pub can : CanReturn index store terms context frames heap stack s end most
-
--- The same where nothing is reduced.
-pub record CanLeave (terms frames heap : List ℕ) (s : Spot) (end : ℕ) : Type 0 where
-  pub index : List ℕ
-  pub store : List ℕ
-  pub context : List ℕ
-  pub stack : List ℕ
-  pub most : ℕ
-  pub can : CanReturn index store terms context frames heap stack s end most
-
--- What a turn back promises.
-abbrev pub Returns : List ℕ → List ℕ → List ℕ → List ℕ → List ℕ → List ℕ → List ℕ → Spot → ℕ → ℕ → List ℕ → List ℕ → List ℕ → Turn → Type 0
-Returns index store terms context frames heap stack s end most context₂ frames₂ heap₂ r =
-    (k : Task) → Given k index store heap stack → Behind k terms context frames heap s end → k.most ≡ most → Turned k terms context₂ frames₂ heap₂ r
+abbrev pub Returns : Machine → Spot → ℕ → Machine → Result Turn Failure → Type 0
+Returns m s end n r =
+    (k : Task) → Given k m.env.index.now m.env.store.now m.heap.now m.stack.now → Behind k m.terms.now m.context.now m.frames.now m.heap.now s end
+    → k.most ≡ m.most → Turned k m.terms.now n.context.now n.frames.now n.heap.now r
 
 -- What is left to be done: it falls with each turn.
-abbrev pub weight : ℕ → ℕ → Turn → ℕ
-weight terms frames (Down s) = 3 * (terms - s.at) + (frames - s.free)
-weight terms frames (Back s end) = 3 * (terms - s.at) + (frames - s.free) + 5
-weight terms frames Refused = 0
-weight terms frames Spent = 0
-weight terms frames NoRoom = 0
+abbrev pub weight : ℕ → ℕ → Result Turn Failure → ℕ
+weight terms frames (Ok (Down s)) = 3 * (terms - s.at) + (frames - s.free)
+weight terms frames (Ok (Back s end)) = 3 * (terms - s.at) + (frames - s.free) + 5
+weight terms frames (Err f) = 0
+
+abbrev pub Falls : Machine → Turn → Result Turn Failure → Type 0
+Falls m t r = weight (length m.terms.now) (length m.frames.now) r < weight (length m.terms.now) (length m.frames.now) (Ok t)

@@ -7,18 +7,11 @@ ghost use Rattle.reduction.specs.Stepping.{Stands};
 ghost use Rattle.kernel.specs.Environments.{PlainAt};
 ghost use Rattle.kernel.specs.Resting.{Above, Comparable, Reducible, Agrees, AgreesNormal};
 
-use crate::rested::{Rested, to_normal};
+use crate::failure::Limit;
+use crate::rested::to_normal;
+use reduction::store::Environment;
 use terms::copy::{copy_term, copy_words};
 use terms::walk::equal;
-
-// They are; they are not; finding out takes more steps than allowed; there is no room for it.
-#[derive(Clone, Copy)]
-pub enum Agreement {
-    Same,
-    Different,
-    Spent,
-    NoRoom,
-}
 
 // Copies the term that stands at a place of the heap to `end`, by way of the stack.
 fn copy_above(heap: &mut [u32], at: usize, end: usize, stack: &mut [u32]) -> Option<usize>
@@ -26,21 +19,16 @@ fn copy_above(heap: &mut [u32], at: usize, end: usize, stack: &mut [u32]) -> Opt
     requires order { end ≤ length heap.old }
     ensures { (a : Term) (rest : List ℕ) → At heap.old at a rest → Above heap.old end (length stack.old) a heap.new result }
 {
-    match copy_term(heap, at, stack, 0) {
-        None => None,
-        Some(count) => {
-            if heap.len() - end < count {
-                return None;
-            }
-            Some(copy_words(stack, 0, count, heap, end))
-        }
+    let count = copy_term(heap, at, stack, 0)?;
+    if heap.len() - end < count {
+        return None;
     }
+    Some(copy_words(stack, 0, count, heap, end))
 }
 
 // Compares the normal form that stands from `top` to `end` with that of the term at `domain`, to which `steps` were taken before.
 fn agree_normal(
-    index: &[u32],
-    store: &[u32],
+    env: Environment,
     heap: &mut [u32],
     domain: usize,
     top: usize,
@@ -48,31 +36,19 @@ fn agree_normal(
     stack: &mut [u32],
     steps: u64,
     most: u64,
-) -> Agreement
-    requires { Comparable index.now store.now heap.old domain top end steps most }
-    ensures { (e : Env) (a c : Term) (rest : List ℕ) → PlainAt index.now store.now e → At heap.old domain a rest → domain + 3 * size a ≤ top → Stands heap.old top c end
+) -> Result<bool, Limit>
+    requires { Comparable env.index.now env.store.now heap.old domain top end steps most }
+    ensures { (e : Env) (a c : Term) (rest : List ℕ) → PlainAt env.entry.index.now env.entry.store.now e → At heap.old domain a rest → domain + 3 * size a ≤ top → Stands heap.old top c end
         → AgreesNormal e steps most heap.old top (length stack.old) a c heap.new result }
 {
-    let Some(last) = copy_above(heap, domain, end, stack) else {
-        return Agreement::NoRoom;
-    };
-    match to_normal(index, store, heap, end, last, stack, steps, most) {
-        Rested::Normal(_) => {
-            if equal(heap, top, heap, end) {
-                Agreement::Same
-            } else {
-                Agreement::Different
-            }
-        }
-        Rested::Spent => Agreement::Spent,
-        Rested::NoRoom => Agreement::NoRoom,
-    }
+    let last = copy_above(heap, domain, end, stack).ok_or(Limit::NoRoom)?;
+    to_normal(env, heap, end, last, stack, steps, most)?;
+    Ok(equal(heap, top, heap, end))
 }
 
 // Compares the type that stands from `top` to `end` with the term at `domain`, to which `steps` were taken before.
 pub fn agree(
-    index: &[u32],
-    store: &[u32],
+    env: Environment,
     heap: &mut [u32],
     domain: usize,
     top: usize,
@@ -80,19 +56,14 @@ pub fn agree(
     stack: &mut [u32],
     steps: u64,
     most: u64,
-) -> Agreement
-    requires { Reducible index.now store.now heap.old domain top end steps most }
-    ensures { (e : Env) (a c : Term) (rest : List ℕ) → PlainAt index.now store.now e → At heap.old domain a rest → domain + 3 * size a ≤ top → Stands heap.old top c end
+) -> Result<bool, Limit>
+    requires { Reducible env.index.now env.store.now heap.old domain top end steps most }
+    ensures { (e : Env) (a c : Term) (rest : List ℕ) → PlainAt env.entry.index.now env.entry.store.now e → At heap.old domain a rest → domain + 3 * size a ≤ top → Stands heap.old top c end
         → Agrees e steps most heap.old top (length stack.old) a c heap.new result }
 {
     if equal(heap, domain, heap, top) {
-        return Agreement::Same;
+        return Ok(true);
     }
-    match to_normal(index, store, heap, top, end, stack, 0, most) {
-        Rested::Normal(stop) => agree_normal(
-            index, store, heap, domain, top, stop, stack, steps, most,
-        ),
-        Rested::Spent => Agreement::Spent,
-        Rested::NoRoom => Agreement::NoRoom,
-    }
+    let stop = to_normal(env, heap, top, end, stack, 0, most)?;
+    agree_normal(env, heap, domain, top, stop, stack, steps, most)
 }

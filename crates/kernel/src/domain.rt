@@ -1,80 +1,45 @@
 // Back from the domain of a function type or a function: its type comes to a sort, and the second part is next.
-ghost use Rattle.std.specs.Prelude.{ℕ, ◌<◌, List, length};
-ghost use Rattle.kernel.specs.Turns.{Tagged, CanBack, Returns, weight};
+ghost use Rattle.kernel.specs.Turns.{CanReturn, Falls, Keeps, Returns, Tagged};
 
-use crate::frames::push_level;
-use crate::sorted::{Sorted, to_level};
+use crate::failure::Failure;
+use crate::frames::{Kind, push_level};
+use crate::machine::Machine;
+use crate::sorted::to_level;
 use crate::turn::{Spot, Turn};
-use terms::number::{number_at, push_number};
+use terms::number::push_number;
 
-// Of a function type: its level is kept.
-pub fn back_pi(
-    index: &[u32],
-    store: &[u32],
-    context: &mut [u32],
-    frames: &mut [u32],
-    heap: &mut [u32],
-    stack: &mut [u32],
-    spot: Spot,
-    end: usize,
-    most: u64,
-) -> Turn
-    requires can { CanBack index.now store.now context.old frames.old heap.old stack.old spot end most }
-    requires tagged { Tagged frames.old spot.free 0 }
-    ensures turned { (terms : List ℕ) → Returns index.now store.now terms context.old frames.old heap.old stack.old spot end most
-        context.new frames.new heap.new result }
-    ensures falls { (t : ℕ) → weight t (length frames.old) result < weight t (length frames.old) (Turn.Back spot end) }
-{
-    match to_level(index, store, heap, spot.top, end, stack, most) {
-        Sorted::Sort(level) => {
-            let place = number_at(frames, spot.free + 1);
-            let names = push_number(context, spot.names, place);
-            let free = push_level(frames, spot.free + 3, level);
-            Turn::Down(Spot {
-                at: spot.at,
-                names,
-                free,
-                top: spot.top,
-            })
-        }
-        Sorted::Other => Turn::Refused,
-        Sorted::Spent => Turn::Spent,
-        Sorted::NoRoom => Turn::NoRoom,
+impl Machine<'_> {
+    // Of a function type: its level is kept.
+    pub fn back_pi(&mut self, spot: Spot, end: usize) -> Result<Turn, Failure>
+        requires can { CanReturn self.old spot end }
+        requires tagged { Tagged self.old.frames.now spot.free Kind.Pi }
+        ensures turned { Returns self.old spot end self.new result }
+        ensures falls { Falls self.old (Turn.Back spot end) result }
+        ensures keeps { Keeps self.old self.new }
+    {
+        let level = to_level(self.env, self.heap, spot.top, end, self.stack, self.most)?;
+        let place = self.kept_number(spot.free + 1);
+        let names = push_number(self.context, spot.names, place);
+        let free = push_level(self.frames, spot.free + 3, level);
+        Ok(Turn::Down(Spot {
+            names,
+            free,
+            ..spot
+        }))
     }
-}
 
-// Of a function: its place is kept.
-pub fn back_lam(
-    index: &[u32],
-    store: &[u32],
-    context: &mut [u32],
-    frames: &mut [u32],
-    heap: &mut [u32],
-    stack: &mut [u32],
-    spot: Spot,
-    end: usize,
-    most: u64,
-) -> Turn
-    requires can { CanBack index.now store.now context.old frames.old heap.old stack.old spot end most }
-    requires tagged { Tagged frames.old spot.free 2 }
-    ensures turned { (terms : List ℕ) → Returns index.now store.now terms context.old frames.old heap.old stack.old spot end most
-        context.new frames.new heap.new result }
-    ensures falls { (t : ℕ) → weight t (length frames.old) result < weight t (length frames.old) (Turn.Back spot end) }
-{
-    match to_level(index, store, heap, spot.top, end, stack, most) {
-        Sorted::Sort(_) => {
-            let place = number_at(frames, spot.free + 1);
-            let names = push_number(context, spot.names, place);
-            frames[spot.free] = 3;
-            Turn::Down(Spot {
-                at: spot.at,
-                names,
-                free: spot.free,
-                top: spot.top,
-            })
-        }
-        Sorted::Other => Turn::Refused,
-        Sorted::Spent => Turn::Spent,
-        Sorted::NoRoom => Turn::NoRoom,
+    // Of a function: its place is kept.
+    pub fn back_lam(&mut self, spot: Spot, end: usize) -> Result<Turn, Failure>
+        requires can { CanReturn self.old spot end }
+        requires tagged { Tagged self.old.frames.now spot.free Kind.Lam }
+        ensures turned { Returns self.old spot end self.new result }
+        ensures falls { Falls self.old (Turn.Back spot end) result }
+        ensures keeps { Keeps self.old self.new }
+    {
+        to_level(self.env, self.heap, spot.top, end, self.stack, self.most)?;
+        let place = self.kept_number(spot.free + 1);
+        let names = push_number(self.context, spot.names, place);
+        self.frames[spot.free] = Kind::UnderLam.word();
+        Ok(Turn::Down(Spot { names, ..spot }))
     }
 }

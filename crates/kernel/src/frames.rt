@@ -1,18 +1,54 @@
-// Frames in words, on a stack that grows down: a tag and what goes with it.
-ghost use Rattle.std.specs.Prelude.{◌≡◌, ◌≤◌, [], ◌∷◌, length};
+// Frames in words, on a stack that grows down: the word of a kind and what goes with it.
+ghost use Rattle.std.specs.Prelude.{◌≡◌, ◌<◌, ◌≤◌, [], ◌∷◌, length};
 ghost use Rattle.terms.specs.Words.{number};
-ghost use Rattle.kernel.specs.Frames.{Stacks};
+ghost use Rattle.kernel.specs.Frames.{Stacks, kind_word};
 
 use terms::number::push_number;
 
-// A tag and a place.
-pub fn push_place(frames: &mut [u32], free: usize, tag: u32, place: usize) -> usize
+// The part of a node in which the walk is: the domain of a function type, its codomain, the domain of a function, its body, the function
+// of an application, its argument.
+#[derive(Clone, Copy, Debug, PartialEq, Eq)]
+pub enum Kind {
+    Pi = 0,
+    UnderPi = 1,
+    Lam = 2,
+    UnderLam = 3,
+    Fun = 4,
+    Arg = 5,
+}
+
+impl Kind {
+    // The word of the kind.
+    pub fn word(self) -> u32
+        ensures { result ≡ kind_word self }
+    {
+        self as u32
+    }
+
+    // The kind with this word.
+    pub fn of(word: u32) -> Kind
+        requires { word < 6 }
+        ensures { kind_word result ≡ word }
+    {
+        match word {
+            0 => Kind::Pi,
+            1 => Kind::UnderPi,
+            2 => Kind::Lam,
+            3 => Kind::UnderLam,
+            4 => Kind::Fun,
+            _ => Kind::Arg,
+        }
+    }
+}
+
+// A kind and a place.
+pub fn push_place(frames: &mut [u32], free: usize, kind: Kind, place: usize) -> usize
     requires room { 3 ≤ free }
     requires within { free ≤ length frames.old }
-    ensures { Stacks frames.old free (tag ∷ number place []) frames.new result }
+    ensures { Stacks frames.old free (kind_word kind ∷ number place []) frames.new result }
 {
     let top = push_number(frames, free, place);
-    frames[top - 1] = tag;
+    frames[top - 1] = kind.word();
     top - 1
 }
 
@@ -20,11 +56,11 @@ pub fn push_place(frames: &mut [u32], free: usize, tag: u32, place: usize) -> us
 pub fn push_level(frames: &mut [u32], free: usize, level: u32) -> usize
     requires room { 3 ≤ free }
     requires within { free ≤ length frames.old }
-    ensures { Stacks frames.old free (1 ∷ level ∷ 0 ∷ []) frames.new result }
+    ensures { Stacks frames.old free (kind_word Kind.UnderPi ∷ level ∷ 0 ∷ []) frames.new result }
 {
     frames[free - 1] = 0;
     frames[free - 2] = level;
-    frames[free - 3] = 1;
+    frames[free - 3] = Kind::UnderPi.word();
     free - 3
 }
 
@@ -38,9 +74,9 @@ pub fn push_argument(
 ) -> usize
     requires room { 7 ≤ free }
     requires within { free ≤ length frames.old }
-    ensures { Stacks frames.old free (5 ∷ number place (number kept (number steps []))) frames.new result }
+    ensures { Stacks frames.old free (kind_word Kind.Arg ∷ number place (number kept (number steps []))) frames.new result }
 {
     let below = push_number(frames, free, steps as usize);
     let top = push_number(frames, below, kept);
-    push_place(frames, top, 5, place)
+    push_place(frames, top, Kind::Arg, place)
 }

@@ -10,55 +10,44 @@ ghost use Rattle.reduction.specs.Store.{EnvAt, Stored};
 ghost use Rattle.kernel.specs.Machine.{ContextAt};
 ghost use Rattle.kernel.specs.Leaves.{LeafSays, ContextFits};
 
-use reduction::store::{Found, find_entry};
-use terms::copy::{Copied, copy_term};
+use crate::failure::Failure;
+use reduction::store::{Environment, Found};
+use terms::copy::copy_term;
 use terms::lift::lift;
 use terms::number::number_at;
 use terms::sign::{Index, Level, Sign, push_sign};
 
-// The type with its end; there is none; there is no room for it.
-#[derive(Clone, Copy)]
-pub enum Leaf {
-    Written(usize),
-    Missing,
-    NoRoom,
-}
-
-// The type of a sort: the next sort.
-pub fn sort_type(heap: &mut [u32], top: usize, level: Level) -> Leaf
+// The type of a sort, the next sort: where it ends.
+pub fn sort_type(heap: &mut [u32], top: usize, level: Level) -> Result<usize, Failure>
     requires small { level.0 < 1000 }
     requires order { top ≤ length heap.old }
     ensures { (stack : ℕ) → LeafSays heap.old top stack heap.new (some (sort (suc level.0))) result }
 {
     if heap.len() - top < 3 {
-        return Leaf::NoRoom;
+        return Err(Failure::NoRoom);
     }
-    Leaf::Written(push_sign(heap, top, Sign::Sort(Level(level.0 + 1))))
+    Ok(push_sign(heap, top, Sign::Sort(Level(level.0 + 1))))
 }
 
 // A type that stands in the store.
-fn stored_type(store: &[u32], at: usize, heap: &mut [u32], top: usize) -> Leaf
+fn stored_type(store: &[u32], at: usize, heap: &mut [u32], top: usize) -> Result<usize, Failure>
     requires stands { Holds store.now at }
     requires order { top ≤ length heap.old }
     ensures { (a : Term) (rest : List ℕ) (stack : ℕ) → At store.now at a rest → LeafSays heap.old top stack heap.new (some a) result }
 {
-    match copy_term(store, at, heap, top) {
-        Some(end) => Leaf::Written(end),
-        None => Leaf::NoRoom,
-    }
+    copy_term(store, at, heap, top).ok_or(Failure::NoRoom)
 }
 
 // The type of a definition or an axiom.
-pub fn head_type(index: &[u32], store: &[u32], i: u32, heap: &mut [u32], top: usize) -> Leaf
-    requires stored { Stored index.now store.now }
+pub fn head_type(env: Environment, i: u32, heap: &mut [u32], top: usize) -> Result<usize, Failure>
+    requires stored { Stored env.index.now env.store.now }
     requires order { top ≤ length heap.old }
-    ensures { (e : Env) (stack : ℕ) → EnvAt index.now store.now e → LeafSays heap.old top stack heap.new (head_type_lem e (h_def i)) result }
+    ensures { (e : Env) (stack : ℕ) → EnvAt env.entry.index.now env.entry.store.now e → LeafSays heap.old top stack heap.new (head_type_lem e (h_def i)) result }
 {
-    match find_entry(index, store, i) {
-        Found::Missing => Leaf::Missing,
-        Found::Inductive => Leaf::Missing,
-        Found::Axiom(at) => stored_type(store, at, heap, top),
-        Found::Definition(at, _) => stored_type(store, at, heap, top),
+    match env.find_entry(i).ok_or(Failure::Refused)? {
+        Found::Definition(at, _) => stored_type(env.store, at, heap, top),
+        Found::Axiom(at) => stored_type(env.store, at, heap, top),
+        Found::Inductive(_) => Err(Failure::Refused),
     }
 }
 
@@ -71,7 +60,7 @@ pub fn variable_type(
     heap: &mut [u32],
     top: usize,
     stack: &mut [u32],
-) -> Leaf
+) -> Result<usize, Failure>
     requires context { ContextFits terms.now context.now names }
     requires order { top ≤ length heap.old }
     ensures { (g : List Term) → ContextAt terms.now g (drop names context.now) → names + 2 * length g ≡ length context.now
@@ -79,12 +68,8 @@ pub fn variable_type(
 {
     let x = index.0;
     if (context.len() - names) / 2 <= x {
-        return Leaf::Missing;
+        return Err(Failure::Refused);
     }
     let place = number_at(context, names + 2 * x);
-    match lift(terms, place, 0, x + 1, heap, top, stack) {
-        Copied::Done(end) => Leaf::Written(end),
-        Copied::NoRoom => Leaf::NoRoom,
-        Copied::NoStack => Leaf::NoRoom,
-    }
+    Ok(lift(terms, place, 0, x + 1, heap, top, stack)?)
 }

@@ -1,4 +1,4 @@
-// The level of the sort that a type comes to.
+// The level of a type.
 ghost use Rattle.std.specs.Prelude.{length};
 ghost use Rattle.theory.specs.Terms.{Term};
 ghost use Rattle.theory.specs.Environment.{Env};
@@ -6,48 +6,25 @@ ghost use Rattle.reduction.specs.Stepping.{Ready, Stands};
 ghost use Rattle.kernel.specs.Environments.{PlainAt};
 ghost use Rattle.kernel.specs.Reducing.{Sorts};
 
-use reduction::reduce::{Aim, Reduced, reduce};
+use crate::failure::Failure;
+use crate::rested::reduce_halved;
+use reduction::reduce::{Aim, Reduced};
+use reduction::store::Environment;
 
-// A level; it comes to no sort; it takes more steps than allowed; there is no room.
-#[derive(Clone, Copy)]
-pub enum Sorted {
-    Sort(u32),
-    Other,
-    Spent,
-    NoRoom,
-}
-
-// Reduces the type that stands from `at` to `end` to its first sort.
+// The level of the first sort that the type comes to that stands from `at` to `end`.
 pub fn to_level(
-    index: &[u32],
-    store: &[u32],
+    env: Environment,
     heap: &mut [u32],
     at: usize,
     end: usize,
     stack: &mut [u32],
     most: u64,
-) -> Sorted
-    requires ready { Ready index.now store.now heap.old at end }
-    ensures { (e : Env) (t : Term) → PlainAt index.now store.now e → Stands heap.old at t end → Sorts e most heap.old at (length stack.old) t heap.new result }
+) -> Result<u32, Failure>
+    requires ready { Ready env.index.now env.store.now heap.old at end }
+    ensures { (e : Env) (t : Term) → PlainAt env.entry.index.now env.entry.store.now e → Stands heap.old at t end → Sorts e most heap.old at (length stack.old) t heap.new result }
 {
-    let half = stack.len() / 2;
-    let (scratch, rest) = stack.split_at_mut(half);
-    match reduce(
-        index,
-        store,
-        heap,
-        at,
-        end,
-        scratch,
-        rest,
-        Aim::ToSort,
-        0,
-        most,
-    ) {
-        Reduced::Reached(_, _) => Sorted::Sort(heap[at + 1]),
-        Reduced::Resting(_, _) => Sorted::Other,
-        Reduced::UsedUp => Sorted::Spent,
-        Reduced::NoRoom => Sorted::NoRoom,
-        Reduced::NotYet => Sorted::NoRoom,
+    match reduce_halved(env, heap, at, end, stack, Aim::ToSort, 0, most)? {
+        Reduced::Reached(_, _) => Ok(heap[at + 1]),
+        Reduced::Resting(_, _) => Err(Failure::Refused),
     }
 }

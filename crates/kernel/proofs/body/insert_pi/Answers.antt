@@ -6,13 +6,13 @@ use Rattle.kernel.proofs.body.insert_pi.Goals as goal
 pub slice_bounds-rotate_right-end : goal.slice_bounds-rotate_right-end
 slice_bounds-rotate_right-end c =
     let t = c.requires.stands in
-    let a = c.in-Some.ensures t.term t.rest t.at in
-    let h : c.in-Some.stop ≤ length c.copy_term.new.out = appended_within _ _ c.push_sign-start.result c.in-Some.stop t.term (omega (arith, c.push_sign-start.ensures.ends, c.if-heap-end-lt3.false)) a in
-    let k : c.args.top ≤ c.in-Some.stop = omega (arith, a.ends, c.push_sign-start.ensures.ends, c.requires.order) in
+    let a = c.in_ok-stop.ensures t.term t.rest t.at in
+    let h : c.in_ok-stop.stop ≤ length c.copy_term.new.out = appended_within _ _ c.push_sign-start.result c.in_ok-stop.stop t.term (omega (arith, c.push_sign-start.ensures.ends, c.if-heap-end-lt3.false)) a in
+    let k : c.args.top ≤ c.in_ok-stop.stop = omega (arith, a.ends, c.push_sign-start.ensures.ends, c.requires.order) in
     search rules
 
-pub returns-in-Some : goal.returns-in-Some
-returns-in-Some c a t rest at s =
-    let w = c.in-Some.ensures a rest at in
-    pi_inserted c.args.heap.now c.push_sign-start.new.out c.copy_term.new.out c.rotate_right.new.self c.args.top c.args.end c.push_sign-start.result c.in-Some.stop (c.in-Some.stop - c.args.end) a t s c.requires.within
-    (appended_within _ _ c.push_sign-start.result c.in-Some.stop a (omega (arith, c.push_sign-start.ensures.ends, c.if-heap-end-lt3.false)) w) refl c.push_sign-start.ensures w c.rotate_right.ensures.after
+pub returns : goal.returns
+returns c a t rest at s =
+    let w = c.in_ok-stop.ensures a rest at in
+    pi_inserted c.args.heap.now c.push_sign-start.new.out c.copy_term.new.out c.rotate_right.new.self c.args.top c.args.end c.push_sign-start.result c.in_ok-stop.stop (c.in_ok-stop.stop - c.args.end) a t s c.requires.within
+    (appended_within _ _ c.push_sign-start.result c.in_ok-stop.stop a (omega (arith, c.push_sign-start.ensures.ends, c.if-heap-end-lt3.false)) w) refl c.push_sign-start.ensures w c.rotate_right.ensures.after

@@ -4,5 +4,5 @@ use Rattle.kernel.proofs.frames.push_place.Goals as goal
 
 pub returns : goal.returns
 returns c =
-    stack_then _ _ _ _ _ _ _ _ (stack_number _ _ _ _ _ c.push_number-top.ensures)
-    (stack_one _ _ _ _ (omega (arith, c.push_number-top.ensures.grows)) (omega (arith, c.push_number-top.ensures.grows)))
+    rw c.word.ensures (stack_then _ _ _ _ _ _ _ _ (stack_number _ _ _ _ _ c.push_number-top.ensures)
+    (stack_one _ _ _ _ (omega (arith, c.push_number-top.ensures.grows)) (omega (arith, c.push_number-top.ensures.grows))))

@@ -1,8 +1,9 @@
-use Rattle.std.proofs.Common.{◌+◌, ap, inl, inr, arith}
+use Rattle.std.proofs.Common.{◌+◌, length, ap, arith}
 use Rattle.theory.specs.Reduction.{map_option}
 use Rattle.theory.specs.Terms.{lift}
 use Rattle.terms.proofs.Nodes.{small_more}
 use Rattle.kernel.proofs.Contexts.{get_none, found, lifted}
+use Rattle.kernel.proofs.Written.{leaf_unwritten}
 use Rattle.kernel.proofs.leaf.variable_type.Goals as goal
 
 pub returns-then-context-names : goal.returns-then-context-names
@@ -18,17 +19,12 @@ lift-requires c =
       shallow = omega arith;
     }
 
-pub returns-in-Done : goal.returns-in-Done
-returns-in-Done c g at e =
+pub returns : goal.returns
+returns c g at e =
     let f = found c.args.terms.now c.args.context.now c.args.names c.args.index.0 c.number_at-place.result g at (omega (arith, c.if-context-names.false, e)) c.number_at-place.ensures in
-    (lift 0 (c.args.index.0 + 1) f.term, lifted g c.args.index.0 f.is, c.in-Done.ensures f.term f.rest f.at)
+    (lift 0 (c.args.index.0 + 1) f.term, lifted g c.args.index.0 f.is, c.in_ok-lift.ensures f.term f.rest f.at)
 
-pub returns-in-NoRoom : goal.returns-in-NoRoom
-returns-in-NoRoom c g at e =
+pub returns-in_err-lift : goal.returns-in_err-lift
+returns-in_err-lift c g at e =
     let f = found c.args.terms.now c.args.context.now c.args.names c.args.index.0 c.number_at-place.result g at (omega (arith, c.if-context-names.false, e)) c.number_at-place.ensures in
-    (lift 0 (c.args.index.0 + 1) f.term, lifted g c.args.index.0 f.is, inl (c.in-NoRoom.ensures f.term f.rest f.at))
-
-pub returns-in-NoStack : goal.returns-in-NoStack
-returns-in-NoStack c g at e =
-    let f = found c.args.terms.now c.args.context.now c.args.names c.args.index.0 c.number_at-place.result g at (omega (arith, c.if-context-names.false, e)) c.number_at-place.ensures in
-    (lift 0 (c.args.index.0 + 1) f.term, lifted g c.args.index.0 f.is, inr (c.in-NoStack.ensures f.term f.rest f.at))
+    leaf_unwritten c.args.heap.now c.lift.new.out c.args.top (length c.args.stack.now) _ (lift 0 (c.args.index.0 + 1) f.term) (lifted g c.args.index.0 f.is) c.in_err-lift.field-0.0 c.from_residual.result c.from_residual.ensures.1 (c.in_err-lift.ensures f.term f.rest f.at)
