@@ -1,5 +1,6 @@
 -- The next declaration: what is known of it where judging stands, and where judging stands behind it.
-use Rattle.std.proofs.Common.{◌≡◌, ℕ, ◌+◌, ◌*◌, ◌<◌, true, List, [], ◌∷◌, ◌++◌, length, Some, None, Option, sym, refl, ap, ◌∙◌, arith}
+use Rattle.std.proofs.Common.{◌≡◌, ℕ, ◌+◌, ◌*◌, ◌<◌, true, List, [], ◌∷◌, ◌++◌, length, Some, None, Option, Ok, Err, Result, sym, refl, ap, ◌∙◌, arith}
+use Rattle.std.specs.Result.{result_ok}
 use mathlib.Core.Option.{some}
 use lib.ListN.{get_elem?}
 use Rattle.theory.specs.Terms.{Term, size}
@@ -16,14 +17,27 @@ use Rattle.terms.proofs.Nodes.{put-length}
 use Rattle.reduction.specs.Lookup.{Declared as Extends}
 use Rattle.kernel.specs.Checking.{CoreEntry}
 use Rattle.resolver.specs.Resolving.{basic, nodes, basic_decl}
-use Rattle.resolver.specs.Entries.{unhidden, decl_nodes, put_entry}
+use Rattle.resolver.specs.Entries.{unhidden, decl_nodes, put_entry, DeclWritten, EntryWritten as Written, DeclResolves}
+use Rattle.resolver.specs.declared.declarations.Declared.{Declared}
+use Rattle.resolver.specs.declared.walk.Nowhere.{Nowhere}
 use Rattle.resolver.specs.Names.{GlobalsAt}
 use Rattle.resolver.proofs.Resolution.{NoneHidden, complete}
 use Rattle.resolver.proofs.Plain.{resolved-size}
 use Rattle.resolver.proofs.Readable.{def_plain, axiom_plain}
 use Rattle.resolver.proofs.Walked.{bare}
-use Rattle.judge.specs.Judging.{Judged, BodyAt, with_body, no_body}
+use Rattle.judge.specs.Judging.{Judged, BodyAt, with_body, no_body, EntryWritten}
 use Rattle.judge.proofs.Cores.{checks_core, entry_core, stage_front, stage_next, decl_next}
+
+-- What is resolved is written as an entry with or without a body.
+pub entry_written : (tree : List ℕ) (gs : List Global) (d : Decl) (rest before : List ℕ) (start : ℕ) (after : List ℕ) (r : Result Declared Nowhere)
+    → DeclResolves tree gs d rest before start after r → EntryWritten tree gs d rest before start after (result_ok r)
+entry_written tree gs d rest before start after (Ok w) x = by w.body x
+  where
+    by : (o : Option ℕ) → Written tree gs d rest before start after o w.end w.behind
+        → (c : Entry) × DeclWritten tree gs d rest before start after c w.end w.behind × BodyAt start o c
+    by (Some b) x = (defined x.body x.type, x.written, with_body x.place)
+    by None x = (assumed x.type, x.written, no_body)
+entry_written tree gs d rest before start after (Err n) x = x.0
 
 -- A plain term leaves nothing out where no global hides arguments.
 basic-plain : (gs : List Global) (ys : List Name) → NoneHidden gs → (a : Expr) → basic a ≡ true → plain gs ys a ≡ true

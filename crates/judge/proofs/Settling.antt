@@ -1,13 +1,14 @@
 -- What the kernel finds of an entry, with the words to work in divided, is what settling promises.
-use Rattle.std.proofs.Common.{◌≡◌, ℕ, ◌+◌, ◌*◌, ◌<◌, ◌≤◌, List, length, Some, None, Option, sym, refl, subst as tr, arith}
+use Rattle.std.proofs.Common.{◌≡◌, ℕ, ◌+◌, ◌*◌, ◌<◌, ◌≤◌, List, length, Some, None, Option, Ok, Err, Result, sym, refl, subst as tr, arith}
+use Rattle.std.specs.Prelude.{⊤}
 use Rattle.theory.specs.Terms.{Term}
 use Rattle.theory.specs.Environment.{Entry, defined, assumed, Env}
 use Rattle.theory.specs.Typing.{whole}
 use Rattle.theory.specs.Question.{InQuestion, mentioned, of_type, of_assumed, entry_size}
 use Rattle.terms.specs.Words.{At}
 use Rattle.kernel.specs.Checking.{Checkable, Checks}
-use Rattle.kernel.specs.declared.check.Checked.{Checked as Verdict}
-use Rattle.kernel.specs.declared.check.Checked.TheVariants.{Holds, Refused, Spent, NoRoom}
+use Rattle.kernel.specs.declared.failure.Failure.{Failure}
+use Rattle.kernel.specs.declared.failure.Failure.TheVariants.{Refused, Spent, NoRoom}
 use Rattle.kernel.proofs.Room.{reached_start}
 use Rattle.judge.specs.Judging.{Lacks, TermsAt, definition_at, axiom_at, Entering, Settles}
 
@@ -22,14 +23,14 @@ pub axiom_asked : {e : Env} {a : Term} → InQuestion e (assumed a) a
 axiom_asked = mentioned (of_assumed whole)
 
 -- From the kernel's answer, given all but the context, the frames and one word for heap and stack.
-pub settled : (e : Env) (c : Entry) (most w heap : ℕ) (r : Verdict) → w ≤ 9 * entry_size c + 2 * heap + 1 → {d : Entry} → c ≡ d → Checks e d most heap r → Settles e c most w r
+pub settled : (e : Env) (c : Entry) (most w heap : ℕ) (r : Result ⊤ Failure) → w ≤ 9 * entry_size c + 2 * heap + 1 → {d : Entry} → c ≡ d → Checks e d most heap r → Settles e c most w r
 settled e c most w heap r l q k = by r l (tr (λ (b : Entry). Checks e b most heap r) (sym q) k)
   where
-    by : (r : Verdict) → w ≤ 9 * entry_size c + 2 * heap + 1 → Checks e c most heap r → Settles e c most w r
-    by Holds l k = k
-    by Refused l k = k
-    by Spent l k = k
-    by NoRoom l k = record { term = k.term; reached = k.reached; large = omega (arith, k.large) }
+    by : (r : Result ⊤ Failure) → w ≤ 9 * entry_size c + 2 * heap + 1 → Checks e c most heap r → Settles e c most w r
+    by (Ok done) l k = k
+    by (Err Refused) l k = k
+    by (Err Spent) l k = k
+    by (Err NoRoom) l k = record { term = k.term; reached = k.reached; large = omega (arith, k.large) }
 
 -- The kernel can be asked.
 pub checkable : {index store : List ℕ} {at nodes : ℕ} {body : Option ℕ} {e : Env} {c : Entry} (d : Entry) (context frames heap stack : List ℕ) → Entering index store at body nodes e c → c ≡ d

@@ -1,5 +1,5 @@
 -- Judging along the declarations of a text, with the names and the environment so far in words.
-use Rattle.std.specs.Prelude.{◌≡◌, ℕ, ◌+◌, ◌*◌, ◌<◌, ◌≤◌, true, List, [], ◌∷◌, ◌++◌, length, take, drop, Some, None, Option}
+use Rattle.std.specs.Prelude.{◌≡◌, ℕ, ◌+◌, ◌*◌, ◌<◌, ◌≤◌, true, List, [], ◌∷◌, ◌++◌, length, take, drop, Some, None, Option, Ok, Err, Result, ⊤}
 use Rattle.theory.specs.Terms.{Term, size}
 use Rattle.theory.specs.Environment.{Entry, defined, assumed, Env}
 use Rattle.theory.specs.Typing.{WfEntry, WfEnv}
@@ -15,14 +15,12 @@ use Rattle.resolver.specs.Names.{GlobalsAt}
 use Rattle.kernel.specs.Inference.{Reached}
 use Rattle.kernel.specs.Environments.{PlainAt}
 use Rattle.kernel.specs.Checking.{CoreEntry}
-use Rattle.kernel.specs.declared.check.Checked.{Checked as Verdict}
-use Rattle.kernel.specs.declared.check.Checked.TheVariants.{Holds, Refused, Spent, NoRoom}
+use Rattle.kernel.specs.declared.failure.Failure.{Failure}
+use Rattle.kernel.specs.declared.failure.Failure.TheVariants.{Refused, Spent, NoRoom}
 use Rattle.judge.specs.Promise.{landed}
 use Rattle.resolver.specs.Entries.{DeclWritten}
 use Rattle.resolver.specs.declared.declarations.Declared.{Declared as Written}
 use Rattle.judge.specs.declared.row.Spot.{Spot}
-use Rattle.judge.specs.declared.row.Step.{Step}
-use Rattle.judge.specs.declared.row.Step.TheVariants as step
 
 -- The text t reads, at landed stages, as the declarations done, which check with globals gs and environment e, and rest.
 pub record Judged (t : List ℕ) (done rest : List Decl) (gs : List Global) (e : Env) : Type 0 where
@@ -95,11 +93,11 @@ pub record Enters (index store : List ℕ) (at : ℕ) (body : Option ℕ) (nodes
   pub entering : Entering index store at body nodes env entry
 
 -- What is found of an entry with w words to work in.
-abbrev pub Settles : Env → Entry → ℕ → ℕ → Verdict → Type 0
-Settles e c most w Holds = WfEntry e c
-Settles e c most w Refused = WfEntry e c → ⊥
-Settles e c most w Spent = TakesLonger e c most
-Settles e c most w NoRoom = Lacks e c most w
+abbrev pub Settles : Env → Entry → ℕ → ℕ → Result ⊤ Failure → Type 0
+Settles e c most w (Ok done) = WfEntry e c
+Settles e c most w (Err Refused) = WfEntry e c → ⊥
+Settles e c most w (Err Spent) = TakesLonger e c most
+Settles e c most w (Err NoRoom) = Lacks e c most w
 
 -- An entry that the declaration stands for, of which nothing is left out.
 pub record StandsFor (gs : List Global) (d : Decl) (c : Entry) : Type 0 where
@@ -108,9 +106,9 @@ pub record StandsFor (gs : List Global) (d : Decl) (c : Entry) : Type 0 where
 
 -- What is found of the next declaration d: it checks, and judging stands behind it; nothing that it may stand for may be declared; a
 -- term in question takes more steps, or more words than w.
-abbrev pub Steps : List ℕ → List ℕ → List ℕ → List ℕ → List ℕ → ℕ → ℕ → ℕ → List Decl → Decl → List Decl → List Global → Env → Step → Type 0
-Steps t tree index table store words most w done d rest gs e (step.Holds s) =
+abbrev pub Steps : List ℕ → List ℕ → List ℕ → List ℕ → List ℕ → ℕ → ℕ → ℕ → List Decl → Decl → List Decl → List Global → Env → Result Spot Failure → Type 0
+Steps t tree index table store words most w done d rest gs e (Ok s) =
     (c : Entry) × Judging t tree index table store words s (done ++ (d ∷ [])) rest (gs ++ globals_of (length e) d) (e ++ (c ∷ []))
-Steps t tree index table store words most w done d rest gs e step.Refused = (c : Entry) → Admissible gs e d c → ⊥
-Steps t tree index table store words most w done d rest gs e step.Spent = (c : Entry) × StandsFor gs d c × TakesLonger e c most
-Steps t tree index table store words most w done d rest gs e step.NoRoom = (c : Entry) × StandsFor gs d c × Lacks e c most w
+Steps t tree index table store words most w done d rest gs e (Err Refused) = (c : Entry) → Admissible gs e d c → ⊥
+Steps t tree index table store words most w done d rest gs e (Err Spent) = (c : Entry) × StandsFor gs d c × TakesLonger e c most
+Steps t tree index table store words most w done d rest gs e (Err NoRoom) = (c : Entry) × StandsFor gs d c × Lacks e c most w

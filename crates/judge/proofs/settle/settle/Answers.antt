@@ -40,13 +40,13 @@ returns-in-Some c e d n =
     let v = as_definition n.terms_at _ c.in-Some.is in
     let f = checkable (defined v.body v.type) c.split_at_mut-context.result.0.now c.split_at_mut-frames.result.0.now c.split_at_mut-heap.result.0.now c.split_at_mut-heap.result.1.now n v.is
     (omega arith) (omega arith) (omega arith) in
-    settled e d c.args.most (length c.args.work.now) (length c.check_definition.new.heap) c.check_definition.result
-    (omega (arith, n.nodes_are)) v.is (c.check_definition.ensures e v.body v.type _ _ v.type_at v.body_at f)
+    settled e d c.args.most (length c.args.work.now) (length c.check_definition.new.self.heap.now) c.check_definition.result
+    (omega (arith, n.nodes_are)) v.is (c.check_definition.ensures.checks e v.body v.type _ _ v.type_at v.body_at f)
 
 pub returns-in-None : goal.returns-in-None
 returns-in-None c e d n =
     let v = as_axiom n.terms_at c.in-None.is in
     let f = checkable (assumed v.type) c.split_at_mut-context.result.0.now c.split_at_mut-frames.result.0.now c.split_at_mut-heap.result.0.now c.split_at_mut-heap.result.1.now n v.is
     (omega arith) (omega arith) (omega arith) in
-    settled e d c.args.most (length c.args.work.now) (length c.check_axiom.new.heap) c.check_axiom.result
-    (omega (arith, n.nodes_are)) v.is (c.check_axiom.ensures e v.type _ v.type_at f)
+    settled e d c.args.most (length c.args.work.now) (length c.check_axiom.new.self.heap.now) c.check_axiom.result
+    (omega (arith, n.nodes_are)) v.is (c.check_axiom.ensures.checks e v.type _ v.type_at f)
