@@ -114,13 +114,13 @@ core_entry (el_def p q) st k e = none-some e
 core_entry (el_axiom p) st k e = none-some e
 core_entry (el_data p q) st k e = omega arith
 
-checks_plain : {ds : List Decl} {gs : List Global} {e : Env} → Checks ds gs e → stage ds < 1 → (i : ℕ) (k : DataType) → data_at e i ≡ some k → ⊥
+pub checks_plain : {ds : List Decl} {gs : List Global} {e : Env} → Checks ds gs e → stage ds < 1 → (i : ℕ) (k : DataType) → data_at e i ≡ some k → ⊥
 checks_plain checks_end st i k p = none-some p
 checks_plain (checks_more {ds = ds} {e = e} {d = d} {c = c} h a f) st i k p =
     option-some (get_elem? (e ++ (c ∷ [])) i) entry_data p λ x q r.
     get_snoc e c i q (λ s. checks_plain h (stage_front ds (d ∷ []) 1 st) i k (rw s r)) (λ s u. core_entry a.0 (stage_next ds [] d 1 st) k (ap entry_data u ∙ r))
 
 -- The words of an entry, and its terms.
-entry_long : (c : Entry) {o : Option ℕ} {start : ℕ} → BodyAt start o c → length (put_entry c) ≡ 3 * entry_size c
+pub entry_long : (c : Entry) {o : Option ℕ} {start : ℕ} → BodyAt start o c → length (put_entry c) ≡ 3 * entry_size c
 entry_long c (with_body {t = t} {a = a} p) = omega (arith, put-length a (put t []), put-length t [])
 entry_long c (no_body {a = a}) = omega (arith, put-length a [])

@@ -4,3 +4,4 @@ pub mod Sizes
 pub mod Cores
 pub mod Settling
 pub mod Going
+pub mod Entering
