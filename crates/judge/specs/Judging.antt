@@ -29,12 +29,14 @@ pub record Judged (t : List ℕ) (done rest : List Decl) (gs : List Global) (e :
   pub checks : Checks done gs e
 
 -- The same in words: the rest stands in the tree from the place of the spot on, the globals in the rows of the table, the environment
--- in the index and the store, and there is room in them for the rest; so many words are there for resolving names.
+-- in the index and the store, and there is room in them for the rest; so many words are there for resolving names. There are no more
+-- declarations than bytes.
 pub record Judging (t tree index table store : List ℕ) (words : ℕ) (s : Spot) (done rest : List Decl) (gs : List Global) (e : Env) : Type 0 where
   pub judged : Judged t done rest gs e
   pub count : s.count ≡ length done
   pub tree_at : drop s.place tree ≡ put_decls rest []
   pub tree_short : length tree ≤ 131072
+  pub all_few : s.count + length rest ≤ 32768
   pub globals : GlobalsAt tree (take s.rows table) gs
   pub stored : EnvAt (take (2 * s.count) index) (take s.used store) e
   pub index_room : 2 * (s.count + length rest) ≤ length index

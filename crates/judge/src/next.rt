@@ -1,14 +1,18 @@
 // Judging the next declaration: its names resolved, its entry settled, and declared.
-ghost use Rattle.std.specs.Prelude.{ℕ, ◌+◌, ◌*◌, ◌^◌, ◌≤◌, List, length};
+ghost use Rattle.std.specs.Prelude.{ℕ, ◌+◌, ◌*◌, ◌^◌, ◌≤◌, List, ◌∷◌, length};
 ghost use Rattle.theory.specs.Environment as theory;
 ghost use Rattle.reduction.specs.Lookup.{Declared as Extends};
 ghost use Rattle.resolver.specs.Entries.{put_entry, DeclSetting, DeclReady};
 ghost use Rattle.syntax.specs.Surface.{Decl};
 ghost use Rattle.elaboration.specs.Elaboration.{Global};
-ghost use Rattle.judge.specs.Judging.{Ordered, BodyAt, EntryWritten};
+ghost use Rattle.judge.specs.Judging.{Ordered, BodyAt, EntryWritten, Judging, CanJudge, Steps};
 
+use crate::row::Spot;
+use crate::settle::settle;
+use kernel::failure::Failure;
 use reduction::declare::{enter_axiom, enter_definition};
-use resolver::declarations::{Declared, resolve_declaration};
+use reduction::store::Environment;
+use resolver::declarations::{Declared, declare, resolve_declaration};
 
 // The entry that the declaration at a place of the tree stands for, written into the store from `start` on; none if a name is nowhere.
 fn resolve_next(
@@ -38,4 +42,40 @@ fn enter(index: &mut [u32], count: usize, store: &mut [u32], used: usize, body: 
         Some(place) => enter_definition(index, count, store, used, place),
         None => enter_axiom(index, count, store, used),
     }
+}
+
+// The next declaration. Its entry is written behind the store, three words from its end on, and stays there if it checks.
+pub fn judge_next(
+    tree: &[u32],
+    index: &mut [u32],
+    table: &mut [u32],
+    store: &mut [u32],
+    names: &mut [u32],
+    work: &mut [u32],
+    spot: Spot,
+    most: u64,
+) -> Result<Spot, Failure>
+    requires { CanJudge tree.now index.old table.old store.old (length names.old) spot }
+    ensures { (t : List ℕ) (done : List Decl) (d : Decl) (rest : List Decl) (gs : List Global) (e : theory.Env)
+        → Judging t tree.now index.old table.old store.old (length names.old) spot done (d ∷ rest) gs e
+        → Steps t tree.now index.new table.new store.new (length names.new) most (length work.old) done d rest gs e result }
+{
+    let start = spot.used + 3;
+    let rows = spot.rows;
+    let entry = resolve_next(tree, spot.place, &table[..rows], names, store, start).ok_or(
+        Failure::Refused,
+    )?;
+    let env = Environment {
+        index: &index[..2 * spot.count],
+        store,
+    };
+    settle(env, start, entry.body, (entry.end - start) / 3, work, most)?;
+    enter(index, spot.count, store, spot.used, entry.body);
+    let more = declare(tree, spot.place, table, rows, spot.count as u32);
+    Ok(Spot {
+        place: entry.behind,
+        count: spot.count + 1,
+        rows: more,
+        used: entry.end,
+    })
 }
