@@ -11,7 +11,7 @@ use Rattle.elaboration.specs.Declarations.{ElabDecl, Admissible, Checks, plain_d
 
 -- How many stages have landed: stage n has, if n < landed.
 abbrev pub landed : ℕ
-landed = 0
+landed = 1
 
 -- Standing t n d gs e: the text t reads, at landed stages, as n declarations that check, with globals gs and environment e, then
 -- d, and then others.
