@@ -112,7 +112,7 @@ pub fn find(
             free += 6;
             continue 'pass;
         }
-        if let Some(_) = hit {
+        if hit.is_some() {
             if free == stack.len() {
                 return hit;
             }
