@@ -69,12 +69,7 @@ fn frame_at(stack: &[u32], free: usize) -> Frame
 
 // The place of the redex that the normal-order step of the term at `at` contracts. What is found in the arguments before one that has to be
 // looked at is remembered on the stack, and counts only if nothing is found there.
-pub fn find(
-    env: Environment,
-    heap: &[u32],
-    at: usize,
-    stack: &mut [u32],
-) -> Option<usize>
+pub fn find(env: Environment, heap: &[u32], at: usize, stack: &mut [u32]) -> Option<usize>
     requires { Findable env.index.now env.store.now heap.now at (length stack.old) }
     ensures { (e : Env) (front rest : List ℕ) (t : Term) → EnvAt env.entry.index.now env.entry.store.now e → heap.now ≡ front ++ put t rest → length front ≡ at → FindsStep e heap.now front t rest result }
 {
@@ -103,7 +98,11 @@ pub fn find(
             }
             if let Some(c) = hit {
                 before = 1;
-                let found = Frame { kind: Kind::Find, place: c, behind: frame.behind };
+                let found = Frame {
+                    kind: Kind::Find,
+                    place: c,
+                    behind: frame.behind,
+                };
                 free = push_frame(stack, free + 6, found);
                 hit = None;
                 continue 'pass;
