@@ -1,9 +1,8 @@
-use Rattle.std.proofs.Common.{◌≡◌, length, arith}
+use Rattle.std.proofs.Common.{length, arith}
 use Rattle.std.proofs.lemmas.Result.{err_from_is_err_and}
-use Rattle.kernel.specs.declared.failure.Limit.TheVariants.{NoRoom}
 use Rattle.kernel.proofs.Reduced.{stands_within}
 use Rattle.kernel.proofs.Tops.{appended_stands}
-use Rattle.kernel.proofs.Agreeing.{stands_at, stands_holds, pair, above_some, above_none, normal_compares, normal_limited, normal_uncopied}
+use Rattle.kernel.proofs.Agreeing.{stands_at, stands_holds, pair, above_some, normal_compares, normal_limited}
 use Rattle.kernel.proofs.agree.agree_normal.Goals as goal
 
 pub to_normal-requires : goal.to_normal-requires
@@ -37,12 +36,6 @@ returns c e a t rest at la lb s =
     let (u, f, l, b) = c.in_ok-to_normal.ensures e a at (appended_stands _ _ _ _ a (stands_within _ _ _ _ s).1 w) in
     let q = pair c.args.heap.now c.copy_above.new.heap c.to_normal.new.heap _ _ _ _ t u _ s (omega arith) w b in
     normal_compares e c.args.steps c.args.most _ _ (length c.args.stack.now) a t u _ _ f q.kept (c.equal.ensures t u _ _ (stands_at _ _ _ t q.lower) q.upper)
-
-pub returns-in_err-last : goal.returns-in_err-last
-returns-in_err-last c e a t rest at la lb s =
-    let (y, p, q) = err_from_is_err_and c.from_residual.result c.from_residual.ensures.1 in
-    let n : y ≡ NoRoom = grind arith in
-    rw (p, n) (normal_uncopied e _ _ _ _ _ _ a t c.copy_above.new.heap s.ends c.requires.order (above_none _ _ _ a (grind arith) (c.copy_above.ensures a rest la)))
 
 pub returns-in_err-to_normal : goal.returns-in_err-to_normal
 returns-in_err-to_normal c e a t rest at la lb s =

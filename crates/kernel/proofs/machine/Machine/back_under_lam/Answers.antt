@@ -6,7 +6,7 @@ use Rattle.kernel.specs.declared.failure.Failure.TheVariants.{NoRoom}
 use Rattle.kernel.proofs.Tops.{fits_some, fits_none}
 use Rattle.kernel.proofs.Reduced.{stands_within}
 use Rattle.kernel.proofs.Backs.{top_frame, top_view}
-use Rattle.kernel.proofs.Codomains.{name_under_lam, under_lam_typed, under_lam_full, under_lam_domain}
+use Rattle.kernel.proofs.Codomains.{under_lam_typed, under_lam_full, under_lam_domain}
 use Rattle.kernel.proofs.machine.Machine.back_under_lam.Goals as goal
 
 pub kept_number-place-requires : goal.kept_number-place-requires
@@ -16,11 +16,6 @@ pub insert_pi-requires : goal.insert_pi-requires
 insert_pi-requires c =
     let b = c.requires.can.behind in
     record { stands = under_lam_domain b.way (top_view b.way b.kept c.requires.tagged) b.kept c.kept_number-place.ensures; order = omega (arith, b.stands.ends); within = b.within }
-
-pub unbound-requires : goal.unbound-requires
-unbound-requires c =
-    let b = c.requires.can.behind in
-    record { names = omega (arith, name_under_lam b.way (top_view b.way b.kept c.requires.tagged) b.kept); free = omega (arith, top_frame b.way b.kept c.requires.tagged.below) }
 
 pub returns-clause-turned : goal.returns-clause-turned
 returns-clause-turned c k n b e =
