@@ -1,9 +1,6 @@
 use Rattle.std.proofs.Common.{◌≡◌, length, arith}
-use Rattle.std.specs.Prelude.{Some, None}
 use Rattle.std.proofs.lemmas.Result.{err_from_is_err_and}
-use Rattle.theory.specs.Terms.{pi}
 use Rattle.kernel.specs.declared.failure.Failure.TheVariants.{NoRoom}
-use Rattle.kernel.proofs.Tops.{fits_some, fits_none}
 use Rattle.kernel.proofs.Reduced.{stands_within}
 use Rattle.kernel.proofs.Backs.{top_frame, top_view}
 use Rattle.kernel.proofs.Codomains.{under_lam_typed, under_lam_full, under_lam_domain}
@@ -21,7 +18,7 @@ pub returns-clause-turned : goal.returns-clause-turned
 returns-clause-turned c k n b e =
     rw c.unbound.ensures
     (under_lam_typed n.sensible b.way (top_view b.way b.kept c.requires.tagged) b.kept b.at b.has c.kept_number-place.ensures (omega (arith, (stands_within _ _ _ _ b.stands).0))
-    (λ a rest at. fits_some (pi a b.type) (let x : c.insert_pi.result ≡ Some c.in_ok-end.end = grind arith in x) (c.insert_pi.ensures a b.type rest at b.stands)) (top_frame b.way b.kept c.requires.tagged.below))
+    (λ a rest at. rw c.in_ok-end.ensures.ok_part at (c.insert_pi.ensures a b.type rest at b.stands)) (top_frame b.way b.kept c.requires.tagged.below))
 
 pub returns-in_err-end-clause-turned : goal.returns-in_err-end-clause-turned
 returns-in_err-end-clause-turned c k n b e =
@@ -29,4 +26,4 @@ returns-in_err-end-clause-turned c k n b e =
     let w : y ≡ NoRoom = grind arith in
     rw (p, w)
     (under_lam_full (length c.insert_pi.new.heap) n.sensible b.way (top_view b.way b.kept c.requires.tagged) b.kept b.has c.kept_number-place.ensures (omega arith)
-    (λ a rest at. fits_none c.args.self.now.heap.now c.insert_pi.new.heap c.args.spot.top (pi a b.type) (let x : c.insert_pi.result ≡ None = grind arith in x) (c.insert_pi.ensures a b.type rest at b.stands)))
+    (λ a rest at. rw c.in_err-end.ensures.ok_part at (c.insert_pi.ensures a b.type rest at b.stands)))
