@@ -85,7 +85,7 @@ reduce_limited e aim count most heap at scratch back stack t after p q plain Use
 reduce_limited e aim count most heap at scratch back stack t after p q plain reduce_error.NoRoom r w (u, m, i, j, large) =
     let (l, x, y) = err_from_is_err_and r w in
     let o : Halts e aim count most heap at stack t after (Err NoRoom) =
-        (u, m, i, j, elim large [ inl a ↦ inl (omega (arith, a)) | inr b ↦ inr (elim b [ inl v ↦ omega (arith, v, p) | inr v ↦ omega (arith, v, q) ]) ]) in
+    (u, m, i, j, elim large [ inl a ↦ inl (omega (arith, a)) | inr b ↦ inr (elim b [ inl v ↦ omega (arith, v, p) | inr v ↦ omega (arith, v, q) ]) ]) in
     rw (x, y) o
 reduce_limited e aim count most heap at scratch back stack t after p q plain NotYet r w (i, d, is) = absurd (plain i d is)
 

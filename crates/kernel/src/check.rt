@@ -40,6 +40,7 @@ impl Machine<'_> {
             → At self.old.terms.now at a rest → Agrees e 0 self.old.most self.old.heap.now top (length self.old.stack.now) b a self.new.heap.now result }
         ensures keeps { Keeps self.old self.new }
     {
+        // Reborrowed, since the call lends one field as `&` and one as `&mut`.
         let heap = &mut *self.heap;
         let end = copy_term(self.terms, at, heap, top).ok_or(Limit::NoRoom)?;
         agree(self.env, self.heap, 0, top, end, self.stack, 0, self.most)
