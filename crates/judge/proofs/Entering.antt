@@ -1,7 +1,6 @@
 -- The next declaration's entry, written behind the store: its terms stand there, and it can be given to the kernel.
-use Rattle.std.proofs.Common.{◌≡◌, ℕ, ◌+◌, ◌*◌, ◌/◌, ◌-◌, ◌<◌, ◌≤◌, true, List, [], ◌∷◌, ◌++◌, length, take, drop, Some, None, Option, sym, refl, ap, ◌∙◌, subst as tr, length-append, length-drop, arith}
-use Rattle.theory.specs.Terms.{Term, size}
-use Rattle.theory.specs.Environment.{Entry, defined, assumed, Env}
+use Rattle.std.proofs.Common.{◌≡◌, ℕ, ◌+◌, ◌*◌, ◌/◌, ◌-◌, ◌≤◌, List, [], ◌∷◌, length, take, drop, Option, sym, ap, ◌∙◌, subst as tr, length-append, length-drop, arith}
+use Rattle.theory.specs.Environment.{Entry, Env}
 use Rattle.theory.specs.Question.{entry_size}
 use Rattle.terms.specs.Words.{At, put}
 use Rattle.terms.specs.Writing.{Appends}
@@ -9,7 +8,7 @@ use Rattle.terms.proofs.Nodes.{put_append}
 use Rattle.terms.proofs.Subterms.{at_next}
 use Rattle.terms.proofs.Appending.{append_keeps, append_stands}
 use Rattle.syntax.specs.Surface.{Decl, decl_names, names_of}
-use Rattle.syntax.specs.Tree.{put_decl, put_decls}
+use Rattle.syntax.specs.Tree.{put_decls}
 use Rattle.elaboration.specs.Elaboration.{Global}
 use Rattle.elaboration.proofs.ChecksWf.{checks_wf}
 use Rattle.resolver.specs.Entries.{decl_nodes, put_entry, DeclWritten, DeclSetting}
