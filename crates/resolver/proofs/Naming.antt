@@ -15,12 +15,6 @@ use Rattle.resolver.specs.Names.{NameAt, Named, Row, GlobalsAt, no_rows, a_row, 
 pub read_first : (ws : List ℕ) (p w : ℕ) (rest : List ℕ) → drop p ws ≡ w ∷ rest → get_or ws p 0 ≡ w
 read_first ws p w rest e = ap (λ (k : ℕ). get_or ws k 0) (let z : p ≡ p + 0 = omega arith in z) ∙ sym (get_or-drop p ws 0 0) ∙ ap (λ (z : List ℕ). get_or z 0 0) e
 
-pub read_second : (ws : List ℕ) (p v w : ℕ) (rest : List ℕ) → drop p ws ≡ v ∷ w ∷ rest → get_or ws (p + 1) 0 ≡ w
-read_second ws p v w rest e = sym (get_or-drop p ws 1 0) ∙ ap (λ (z : List ℕ). get_or z 1 0) e
-
-pub read_third : (ws : List ℕ) (p u v w : ℕ) (rest : List ℕ) → drop p ws ≡ u ∷ v ∷ w ∷ rest → get_or ws (p + 2) 0 ≡ w
-read_third ws p u v w rest e = sym (get_or-drop p ws 2 0) ∙ ap (λ (z : List ℕ). get_or z 2 0) e
-
 -- A name at its place.
 pub name_length : (tree : List ℕ) (p : ℕ) (x : Name) → NameAt tree p x → get_or tree p 0 ≡ length x
 name_length tree p x n = read_first tree p _ _ n.stands
