@@ -17,6 +17,7 @@ pub struct Names<'a> {
 }
 
 // The name that stands there.
+#[tactic(auto, using(crate::proofs::Naming::named_within))]
 pub fn name_at(tree: &[u32], at: usize) -> &[u32]
     requires { Named tree.now at }
     ensures { (x : Name) → NameAt tree.now at x → result.now ≡ x }
