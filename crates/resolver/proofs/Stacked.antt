@@ -1,14 +1,34 @@
 -- Frames on a stack: pushed, passed over, taken up.
 use Rattle.std.proofs.Common.{◌≡◌, ℕ, suc, ◌+◌, ◌-◌, ◌*◌, ◌<◌, ◌≤◌, Bool, true, false, cond, not, eqb, ltb, List, [], ◌∷◌, ◌++◌, length, get_or, take, drop, set, Option, Some, None, Bor, sym, refl, ap, ap₂, ◌∙◌, subst as tr, arith}
-use Rattle.std.proofs.lemmas.List.{drop-drop, drop-set}
+use Rattle.std.proofs.lemmas.List.{drop-drop, drop-set, drop-set-add, drop_more}
 use Rattle.std.specs.Slice.Iter.{chunks_exact_steps}
 use Rattle.std.specs.List.{position_or_len}
 use Rattle.std.specs.declared.slice.ChunksExact.{ChunksExact}
 use Rattle.std.proofs.lemmas.Bool.Decides.{nat_tests}
 use Rattle.std.proofs.lemmas.Iterator.{YieldsList}
 use Rattle.std.proofs.lemmas.Iterator.Splits.{YieldsList-from_shown_while}
-use Rattle.resolver.specs.Frames.{Frame, waits, body, under, put_frames, opened, entered, FramesAt}
+use denote.Enum.Declared.{tag_of}
+use Rattle.resolver.specs.contracts.walk.FrameKind.{the_type}
+use Rattle.resolver.specs.declared.walk.FrameKind.{FrameKind}
+use Rattle.resolver.specs.declared.walk.FrameKind.TheVariants.{Argument, Body, Bound}
+use Rattle.resolver.specs.Frames.{Frame, waits, body, under, put_frames, opened, entered, FramesAt, PushesTwo, kind_word}
 use Rattle.resolver.proofs.Naming.{read_first}
+
+pub pushed_two : (s : List ℕ) (free v w : ℕ) → 2 ≤ free → free ≤ length s → PushesTwo s free v w (set (set s (free - 2) v) (free - 1) w) (free - 2)
+pushed_two s free v w h k = record {
+  grows = omega arith;
+  words =
+      ap (λ (j : ℕ). drop (free - 2) (set (set s (free - 2) v) j w)) (let z : free - 1 ≡ free - 2 + 1 = omega arith in z)
+      ∙ drop-set-add (free - 2) (set s (free - 2) v) 1 w
+      ∙ ap (λ (z : List ℕ). set z 1 w) (drop-set s (free - 2) v (omega arith) ∙ ap (λ (z : List ℕ). v ∷ z) (drop_more s (free - 2 + 1) 0 (omega arith)))
+      ∙ ap (λ (j : ℕ). v ∷ w ∷ drop j s) (let z : free - 2 + 1 + 1 ≡ free = omega arith in z);
+}
+
+-- The word of a kind of frame is its place among the kinds.
+pub frame_tag : (k : FrameKind) → tag_of the_type k ≡ kind_word k
+frame_tag Argument = refl
+frame_tag Body = refl
+frame_tag Bound = refl
 
 twice : (n : ℕ) → 2 * suc n ≡ suc (suc (2 * n))
 twice n = omega arith
