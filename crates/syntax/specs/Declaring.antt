@@ -14,6 +14,7 @@ use Rattle.syntax.specs.declared.scan.Number.{Number}
 use Rattle.syntax.specs.declared.declarations.Progress.{Progress}
 use Rattle.syntax.specs.declared.declarations.Whole.{Whole}
 use Rattle.syntax.specs.declared.parse.Parsed.{Parsed}
+use Rattle.syntax.specs.declared.limits.NoteRead.{NoteRead}
 
 -- hide n, or nothing.
 pub record HideAt (bs : List ℕ) (n : Number) : Type 0 where
@@ -151,6 +152,18 @@ Parses t after (Err s) = (ds : List Decl) → Reads t ds → ⊥
 abbrev pub Shallow : List ℕ → Option ℕ → Type 0
 Shallow t None = shallow 0 (tokens t) ≡ true
 Shallow t (Some left) = shallow 0 (tokens t) ≡ false
+
+-- The first note, with the words of those behind it, or none where there is none.
+pub record NoteFirst (n : Note) (ns : List Note) (r : NoteRead) : Type 0 where
+  pub left : r.left ≡ n.left
+  pub name : r.name.now ≡ n.name
+  pub rest : r.rest.now ≡ note_words ns
+
+abbrev pub ReadsNote : List Note → Option NoteRead → Type 0
+ReadsNote [] None = Unit {0}
+ReadsNote [] (Some r) = ⊥
+ReadsNote (n ∷ ns) None = ⊥
+ReadsNote (n ∷ ns) (Some r) = NoteFirst n ns r
 
 -- Whether a name is among those noted.
 abbrev pub Later : Name → List Note → Option ℕ → Type 0

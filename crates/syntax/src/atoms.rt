@@ -7,18 +7,14 @@ ghost use Rattle.syntax.specs.Parsing.{Follows, FollowsExpr, expr_words, read_fu
 
 use crate::problem::{Problem, Stop};
 use crate::reading::{Read, expect_name, expect_number};
-use crate::scan::{Word, eat, is_name, read_indexed, same_bytes};
+use crate::scan::{Word, eat, is_name, read_indexed, takes_numbers};
 use crate::write::{push, push_named, push_two};
 
 // The stage of a name with numbers.
 fn indexed_stage(name: &[u8]) -> u32
     ensures { result ≡ at_stage name.now }
 {
-    if same_bytes(name, b"eq") || same_bytes(name, b"same") || same_bytes(name, b"along") {
-        2
-    } else {
-        1
-    }
+    if takes_numbers(name) { 2 } else { 1 }
 }
 
 // Behind @: a name.

@@ -12,7 +12,7 @@ use crate::problem::{Problem, Stop};
 use crate::scan::eat;
 
 // What was read: how many words the tree has, how many declarations there are, and the text's stage.
-#[derive(Clone, Copy)]
+#[derive(Clone, Copy, Debug, PartialEq, Eq)]
 pub struct Parsed {
     pub words: usize,
     pub count: usize,
