@@ -4,11 +4,10 @@ ghost use Rattle.syntax.specs.Parsing.{Expects, ExpectsName, ExpectsNumber};
 use crate::problem::{Problem, Stop};
 use crate::scan::{Number, Word, eat, read_name, read_number};
 
-// Something was read: the bytes behind it, where its words end, and its stage.
+// Something was read: the bytes behind it, and its stage.
 #[derive(Clone, Copy, Debug, PartialEq, Eq)]
 pub struct Read<'a> {
     pub rest: &'a [u8],
-    pub len: usize,
     pub stage: u32,
 }
 

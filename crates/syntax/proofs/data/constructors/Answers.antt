@@ -9,18 +9,18 @@ use Rattle.syntax.proofs.DeclReadings.{cons_next, cons_stop, cons_apart, cons_le
 use Rattle.syntax.proofs.data.constructors.Goals as goal
 
 pub loop-behind-init : goal.loop-behind-init
-loop-behind-init c = items_start read_cons con_words con_name con_stage _ _ _ _ _
+loop-behind-init c = items_start read_cons con_words con_name con_stage _ _ _
 
 pub returns-in_err-con : goal.returns-in_err-con
 returns-in_err-con c =
-    declares_fail _ _ _ _ _ _ _ _ _ _ _ _ c.from_residual.result c.from_residual.ensures.0
-    (λ n h. items_none read_cons con_words con_name con_stage _ _ _ _ _ _ _ _ _ _ _ c.loop-behind.invariant
+    declares_fail _ _ _ _ _ _ _ _ _ _ c.from_residual.result c.from_residual.ensures.0
+    (λ n h. items_none read_cons con_words con_name con_stage _ _ _ _ _ _ _ c.loop-behind.invariant
     (λ k l. cons_stop k (tokens c.loop-behind.rest.now) c.in_default.ensures (c.in_err-con.ensures k (omega (arith, l)))) n (omega (arith, h)))
 
 pub loop-behind-preserved : goal.loop-behind-preserved
 loop-behind-preserved c =
     let d = c.in_ok-con.ensures in
-    items_more read_cons con_words con_name con_stage _ _ _ _ _ _ _ _ _ _ _ _ _ _ _ _ _ _ d.value d.notes c.loop-behind.invariant
+    items_more read_cons con_words con_name con_stage _ _ _ _ _ _ _ _ _ _ _ _ d.value d.notes c.loop-behind.invariant
     (λ k l. cons_next k (tokens c.loop-behind.rest.now) _ d.value c.in_default.ensures (d.reads k (omega (arith, l))))
     d.wrote d.named d.noted d.stage c.max-stage.ensures d.fewer d.room d.note_room
 
@@ -30,13 +30,13 @@ returns-in-Some c =
     let e = c.in-Some.ensures in
     record {
       value = v.items;
-      reads = λ n h. items_end read_cons con_words con_name con_stage _ _ _ _ _ _ _ _ _ _ _ (tokens c.in-Some.behind.now) v (λ k l. option_is _ _ _ e.0 refl) n (omega (arith, h));
-      wrote = append_as _ _ _ _ _ _ (cons_apart v.items []) (append_then _ _ _ _ _ _ _ _ v.wrote c.push-last.ensures);
+      reads = λ n h. items_end read_cons con_words con_name con_stage _ _ _ _ _ _ _ (tokens c.in-Some.behind.now) v (λ k l. option_is _ _ _ e.0 refl) n (omega (arith, h));
+      wrote = append_as (cons_apart v.items []) (append_then v.wrote c.push.ensures);
       notes = v.notes;
       named = v.named ∙ cons_named v.items;
       noted = v.noted;
       stage = v.stages ∙ cons_level v.items;
       fewer = omega (arith, v.fewer, e.1.fewer);
-      room = omega (arith, v.room, e.1.shorter, c.push-last.ensures.ends);
+      room = omega (arith, v.room, e.1.shorter, c.push.ensures.ends);
       note_room = omega (arith, v.note_room, e.1.shorter);
     }

@@ -5,7 +5,7 @@ use Rattle.syntax.proofs.Items.{Items}
 use Rattle.syntax.proofs.data.constructors.Given as goal
 
 abbrev pub invariant-loop-behind : goal.invariant-loop-behind
-invariant-loop-behind l = Items read_cons con_words con_name con_stage l.bytes l.initial.out l.len l.out l.initial.names l.used l.names l.rest l.end l.noted l.stage
+invariant-loop-behind l = Items read_cons con_words con_name con_stage l.bytes l.initial.tree l.initial.names l.tree l.names l.rest l.stage
 
 abbrev pub decreases-loop-behind : goal.decreases-loop-behind
 decreases-loop-behind l = length l.rest
