@@ -1,6 +1,6 @@
 -- A term that is read link by link to the right: the frames so far stand before what is still to be read, in the readers, in the
 -- words and in the stage. Then the term is whole, or there is none.
-use Rattle.std.proofs.Common.{◌≡◌, ℕ, zero, suc, ◌+◌, ◌*◌, ◌<◌, ◌≤◌, max, List, [], ◌∷◌, ◌++◌, length, sym, refl, ap, ◌∙◌, ap₂, append_assoc, append-nil, arith}
+use Rattle.std.proofs.Common.{◌≡◌, ℕ, zero, suc, ◌+◌, ◌*◌, ◌<◌, ◌≤◌, max, List, [], ◌∷◌, ◌++◌, length, sym, refl, ap, ◌∙◌, ap₂, append_assoc, append-nil, subst as tr, arith, Bor}
 use mathlib.Core.Option.{Option, some, none}
 use Rattle.syntax.specs.Surface.{Name, Expr, expr_stage}
 use Rattle.syntax.specs.Tokens.{tokens}
@@ -102,17 +102,17 @@ module _ (s : ℕ → List Name → Option (Expr × List Name)) (g : Readers →
   one_more ts ts₁ ts₂ fs f n zero h e l o = absurd (let z : ⊥ = omega arith in z)
   one_more ts ts₁ ts₂ fs f n (suc m) h e l o = (m, omega arith, e ∙ ap (wraps fs) (at_suc m ts₁ ∙ o m (omega arith)) ∙ sym (wraps_last fs f (s m ts₂)))
 
-  pub chain_more : (bs₀ : List ℕ) (before o o₁ : Writer) (bs : List ℕ) (stage stage₁ : ℕ) (q : Read) → stage₁ ≡ max stage q.stage → Chain s bs₀ before o bs stage
-      → Opened 0 g s (tokens bs) (4 * length bs) o o₁ q → Chain s bs₀ before o₁ q.rest.now stage₁
-  chain_more bs₀ before o o₁ bs stage stage₁ q e c d =
-      record {
+  pub chain_more : (bs₀ : List ℕ) (before o o₁ : Writer) (bs : List ℕ) (stage : ℕ) (q p : Read) → p.rest ≡ q.rest → p.stage ≡ max stage q.stage → Chain s bs₀ before o bs stage
+      → Opened 0 g s (tokens bs) (4 * length bs) o o₁ q → Chain s bs₀ before o₁ p.rest.now p.stage
+  chain_more bs₀ before o o₁ bs stage q p e₁ e c d = tr (λ (r : Bor (List ℕ)). Chain s bs₀ before o₁ r.now p.stage) (sym e₁)
+      (record {
         frames = c.frames ++ (d.frame ∷ []);
         links = λ n h. let l = c.links n h in one_more _ _ _ c.frames d.frame n l.0 l.1 l.2 d.fewer d.opens;
         wrote = append_as (words_last c.frames d.frame) (append_then c.wrote d.wrote);
         stages = e ∙ ap₂ max c.stages d.stage ∙ sym (stage_last c.frames d.frame);
         fewer = omega (arith, c.fewer, d.fewer);
         room = omega (arith, c.room, d.room);
-      }
+      })
 
   -- The last part.
   pub chain_last : (bs₀ : List ℕ) (before o o₁ : Writer) (bs : List ℕ) (stage : ℕ) (q p : Read) → p.rest ≡ q.rest → p.stage ≡ max stage q.stage

@@ -1,6 +1,6 @@
 -- A list that is read item by item: the items so far stand before those to come, in the reader, in the words, in the notes of
 -- declared names and in the stage. Said once for parameters, constructors and declarations.
-use Rattle.std.proofs.Common.{◌≡◌, ℕ, zero, suc, ◌+◌, ◌*◌, ◌<◌, ◌≤◌, max, List, [], ◌∷◌, ◌++◌, length, sym, refl, ap, ◌∙◌, ap₂, append_assoc, append-nil, arith}
+use Rattle.std.proofs.Common.{◌≡◌, ℕ, zero, suc, ◌+◌, ◌*◌, ◌<◌, ◌≤◌, max, List, [], ◌∷◌, ◌++◌, length, sym, refl, ap, ◌∙◌, ap₂, append_assoc, append-nil, arith, Bor}
 use mathlib.Core.Option.{Option, some, none}
 use Rattle.syntax.specs.Surface.{Name}
 use Rattle.syntax.specs.Tokens.{tokens}
@@ -117,6 +117,23 @@ module _ {A : Type 0} (f : ℕ → List Name → Option (List A × List Name)) (
         fewer = omega (arith, c.fewer, l);
         room = omega (arith, c.room, r);
         note_room = omega (arith, c.note_room, nr);
+      }
+
+  -- The same bytes under another name.
+  abbrev pub items_as : (bs₀ : List ℕ) (before before₂ o p : Writer) (r q : Bor (List ℕ)) (stage : ℕ) → q ≡ r → Items f words names level bs₀ before before₂ o p r.now stage → Items f words names level bs₀ before before₂ o p q.now stage
+  items_as bs₀ before before₂ o p r q stage e c =
+      record {
+        items = c.items;
+        links = λ n h. let k = c.links n h in
+            (k.0, omega (arith, k.1, ap (λ (z : Bor (List ℕ)). length (tokens z.now)) e), k.2 ∙ ap (λ (z : Bor (List ℕ)). prepend c.items (f k.0 (tokens z.now))) (sym e));
+        wrote = c.wrote;
+        notes = c.notes;
+        named = c.named;
+        noted = c.noted;
+        stages = c.stages;
+        fewer = omega (arith, c.fewer, ap (λ (z : Bor (List ℕ)). length (tokens z.now)) e);
+        room = omega (arith, c.room, ap (λ (z : Bor (List ℕ)). length z.now) e);
+        note_room = omega (arith, c.note_room, ap (λ (z : Bor (List ℕ)). length z.now) e);
       }
 
   -- An item is not there where it must be: nothing is found.

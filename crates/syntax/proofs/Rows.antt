@@ -1,6 +1,6 @@
 -- A term used on arguments that are read one after the other: the arguments so far, in the readers, in the words and in the
 -- stage; and the term at the end, when the tags of the uses are put before them.
-use Rattle.std.proofs.Common.{◌≡◌, ℕ, zero, suc, ◌+◌, ◌*◌, ◌<◌, ◌≤◌, max, List, [], ◌∷◌, ◌++◌, length, replicate, sym, refl, ap, ◌∙◌, append_assoc, append-nil, arith, length-append}
+use Rattle.std.proofs.Common.{◌≡◌, ℕ, zero, suc, ◌+◌, ◌*◌, ◌<◌, ◌≤◌, max, List, [], ◌∷◌, ◌++◌, length, replicate, sym, refl, ap, ◌∙◌, append_assoc, append-nil, subst as tr, arith, Bor, length-append}
 use mathlib.Core.Option.{Option, some, none}
 use lib.ListN.{length-replicate}
 use Rattle.syntax.specs.Surface.{Name, Expr, e_app, expr_stage}
@@ -100,6 +100,10 @@ module _ (s : ℕ → Expr → List Name → Option (Expr × List Name)) where
         fewer = omega (arith, c.fewer, l);
         room = omega (arith, c.room, r);
       }
+
+  -- The same bytes under another name.
+  pub row_as : (bs₁ : List ℕ) (before o : Writer) (r p : Bor (List ℕ)) (stage₁ stage count : ℕ) → p ≡ r → Row s bs₁ before o r.now stage₁ stage count → Row s bs₁ before o p.now stage₁ stage count
+  row_as bs₁ before o r p stage₁ stage count e = tr (λ (q : Bor (List ℕ)). Row s bs₁ before o q.now stage₁ stage count) (sym e)
 
   -- No argument is read where one must be: nothing is found.
   pub row_none : (bs₁ : List ℕ) (before o : Writer) (bs : List ℕ) (stage₁ stage count : ℕ) → Row s bs₁ before o bs stage₁ stage count

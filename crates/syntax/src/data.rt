@@ -47,19 +47,17 @@ fn constructors<'a>(
     requires notes { names.old.len + 3 * length bytes.now ≤ length names.old.words.now }
     ensures { Declares 1 read_cons cons_words con_names cons_stage bytes.now tree.old tree.new names.old names.new result }
 {
-    let mut rest = bytes;
-    let mut stage: u32 = 0;
+    let mut all = Read {
+        rest: bytes,
+        stage: 0,
+    };
     loop {
-        if let Some(behind) = eat(rest, b"}") {
+        if let Some(rest) = eat(all.rest, b"}") {
             tree.push(Tag::End as u32);
-            return Ok(Read {
-                rest: behind,
-                stage,
-            });
+            return Ok(Read { rest, ..all });
         }
-        let con = constructor(rest, tree, names)?;
-        rest = con.rest;
-        stage = stage.max(con.stage);
+        let con = constructor(all.rest, tree, names)?;
+        all = all.then(con);
     }
 }
 

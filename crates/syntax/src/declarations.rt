@@ -52,15 +52,16 @@ pub fn params<'a>(bytes: &'a [u8], out: &mut Writer<'_>) -> Result<Read<'a>, Sto
     requires { out.old.len + (1 + 4 * length bytes.now) ≤ length out.old.words.now }
     ensures { Follows read_params params_words params_stage 0 (tokens bytes.now) (1 + 4 * length bytes.now) out.old out.new result }
 {
-    let mut rest = bytes;
-    let mut stage: u32 = 0;
-    while let Some(inner) = eat(rest, b"(") {
+    let mut all = Read {
+        rest: bytes,
+        stage: 0,
+    };
+    while let Some(inner) = eat(all.rest, b"(") {
         let read = param(inner, out)?;
-        rest = read.rest;
-        stage = stage.max(read.stage);
+        all = all.then(read);
     }
     out.push(Tag::End as u32);
-    Ok(Read { rest, stage })
+    Ok(all)
 }
 
 // A declared name and how many of its arguments are hidden.

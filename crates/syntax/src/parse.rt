@@ -60,19 +60,20 @@ fn declarations(bytes: &[u8], tree: &mut Writer<'_>, names: &mut Writer<'_>) -> 
     requires notes { names.old.len + 3 * length bytes.now ≤ length names.old.words.now }
     ensures { DeclaresAll bytes.now tree.old tree.new names.old names.new result }
 {
-    let mut rest = bytes;
+    let mut all = Read {
+        rest: bytes,
+        stage: 0,
+    };
     let mut count = 0;
-    let mut stage: u32 = 0;
-    while next_token(rest).is_some() {
-        let read = declaration(rest, tree, names)?;
-        rest = read.rest;
+    while next_token(all.rest).is_some() {
+        let read = declaration(all.rest, tree, names)?;
+        all = all.then(read);
         count += 1;
-        stage = stage.max(read.stage);
     }
     Ok(Parsed {
         words: tree.len,
         count,
-        stage,
+        stage: all.stage,
     })
 }
 

@@ -11,7 +11,22 @@ pub struct Read<'a> {
     pub stage: u32,
 }
 
-// A term is read link by link: a binder, whose body comes next, or the last part.
+impl<'a> Read<'a> {
+    ghost use Rattle.std.specs.Prelude.{◌≡◌, max};
+
+    // What was read behind it, and the stage of both.
+    pub fn then(self, next: Read<'a>) -> Read<'a>
+        ensures rest { result.rest ≡ next.entry.rest }
+        ensures stage { result.stage ≡ max self.entry.stage next.entry.stage }
+    {
+        Read {
+            rest: next.rest,
+            stage: self.stage.max(next.stage),
+        }
+    }
+}
+
+// A term is read link by link: a binder, whose body comes next, or the last part. Neither is a failure, so it is no Result.
 #[derive(Clone, Copy, Debug, PartialEq, Eq)]
 pub enum Link<'a> {
     More(Read<'a>),

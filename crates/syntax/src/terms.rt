@@ -20,21 +20,14 @@ pub fn term<'a>(bytes: &'a [u8], out: &mut Writer<'_>) -> Result<Read<'a>, Stop>
     requires { out.old.len + 4 * length bytes.now ≤ length out.old.words.now }
     ensures { FollowsExpr (lower read_term) bytes.now out.old out.new result }
 {
-    let mut rest = bytes;
-    let mut stage: u32 = 0;
+    let mut all = Read {
+        rest: bytes,
+        stage: 0,
+    };
     loop {
-        let link = term_link(rest, out)?;
-        match link {
-            Link::More(read) => {
-                rest = read.rest;
-                stage = stage.max(read.stage);
-            }
-            Link::Last(read) => {
-                return Ok(Read {
-                    rest: read.rest,
-                    stage: stage.max(read.stage),
-                });
-            }
+        match term_link(all.rest, out)? {
+            Link::More(read) => all = all.then(read),
+            Link::Last(read) => return Ok(all.then(read)),
         }
     }
 }
@@ -65,10 +58,7 @@ pub fn bound<'a>(tag: Tag, word: Word<'a>, out: &mut Writer<'_>) -> Result<Read<
     out.push_named(tag, word.name);
     let read = term(word.rest, out)?;
     let rest = expect(read.rest, b")", Problem::Close)?;
-    Ok(Read {
-        rest,
-        stage: read.stage,
-    })
+    Ok(Read { rest, ..read })
 }
 
 // Behind fun: the bound variable, up to =>.
@@ -83,10 +73,7 @@ fn function<'a>(bytes: &'a [u8], out: &mut Writer<'_>) -> Result<Read<'a>, Stop>
     })?;
     let read = bound(Tag::Lam, word, out)?;
     let rest = expect(read.rest, b"=>", Problem::Maps)?;
-    Ok(Read {
-        rest,
-        stage: read.stage,
-    })
+    Ok(Read { rest, ..read })
 }
 
 // Behind ( x : the rest of a function type's domain, up to ->.
@@ -99,10 +86,7 @@ fn function_type<'a>(word: Word<'a>, out: &mut Writer<'_>) -> Result<Read<'a>, S
 {
     let read = bound(Tag::Pi, word, out)?;
     let rest = expect(read.rest, b"->", Problem::Arrow)?;
-    Ok(Read {
-        rest,
-        stage: read.stage,
-    })
+    Ok(Read { rest, ..read })
 }
 
 // A row of atoms, and the arrow behind it if there is one.
@@ -118,10 +102,7 @@ fn arrow<'a>(bytes: &'a [u8], out: &mut Writer<'_>) -> Result<Link<'a>, Stop>
     };
     out.insert(start, 0, 1);
     out.insert(start, Tag::Pi as u32, 1);
-    Ok(Link::More(Read {
-        rest,
-        stage: read.stage,
-    }))
+    Ok(Link::More(Read { rest, ..read }))
 }
 
 // A row of atoms: the first, used on the others.
@@ -132,17 +113,15 @@ fn uses<'a>(bytes: &'a [u8], out: &mut Writer<'_>) -> Result<Read<'a>, Stop>
 {
     let start = out.len;
     let first = atom(bytes, out)?;
-    let mut rest = first.rest;
-    let mut stage = first.stage;
+    let mut all = first;
     let mut count = 0;
-    while starts_atom(rest) {
-        let next = atom(rest, out)?;
-        rest = next.rest;
-        stage = stage.max(next.stage);
+    while starts_atom(all.rest) {
+        let next = atom(all.rest, out)?;
+        all = all.then(next);
         count += 1;
     }
     out.insert(start, Tag::App as u32, count);
-    Ok(Read { rest, stage })
+    Ok(all)
 }
 
 // An atom.
@@ -154,10 +133,7 @@ fn atom<'a>(bytes: &'a [u8], out: &mut Writer<'_>) -> Result<Read<'a>, Stop>
     if let Some(rest) = eat(bytes, b"(") {
         let read = term(rest, out)?;
         let rest = expect(read.rest, b")", Problem::Close)?;
-        return Ok(Read {
-            rest,
-            stage: read.stage,
-        });
+        return Ok(Read { rest, ..read });
     }
     if let Some(rest) = eat(bytes, b"by") {
         return block(rest, out);
@@ -187,21 +163,14 @@ fn script<'a>(bytes: &'a [u8], out: &mut Writer<'_>) -> Result<Read<'a>, Stop>
     requires { out.old.len + 4 * length bytes.now ≤ length out.old.words.now }
     ensures { FollowsExpr (lower read_script) bytes.now out.old out.new result }
 {
-    let mut rest = bytes;
-    let mut stage: u32 = 0;
+    let mut all = Read {
+        rest: bytes,
+        stage: 0,
+    };
     loop {
-        let link = script_link(rest, out)?;
-        match link {
-            Link::More(read) => {
-                rest = read.rest;
-                stage = stage.max(read.stage);
-            }
-            Link::Last(read) => {
-                return Ok(Read {
-                    rest: read.rest,
-                    stage: stage.max(read.stage),
-                });
-            }
+        match script_link(all.rest, out)? {
+            Link::More(read) => all = all.then(read),
+            Link::Last(read) => return Ok(all.then(read)),
         }
     }
 }
@@ -269,10 +238,7 @@ fn exact<'a>(bytes: &'a [u8], out: &mut Writer<'_>) -> Result<Read<'a>, Stop>
 {
     let read = term(bytes, out)?;
     let rest = expect(read.rest, b";", Problem::Semicolon)?;
-    Ok(Read {
-        rest,
-        stage: read.stage,
-    })
+    Ok(Read { rest, ..read })
 }
 
 // Behind apply: a term, used on the scripts in braces behind it.
@@ -283,15 +249,14 @@ fn apply<'a>(bytes: &'a [u8], out: &mut Writer<'_>) -> Result<Read<'a>, Stop>
 {
     let start = out.len;
     let first = exact(bytes, out)?;
-    let mut rest = first.rest;
-    let mut stage = first.stage;
+    let mut all = first;
     let mut count = 0;
-    while let Some(inner) = eat(rest, b"{") {
+    while let Some(inner) = eat(all.rest, b"{") {
         let read = script(inner, out)?;
-        rest = expect(read.rest, b"}", Problem::CloseBrace)?;
-        stage = stage.max(read.stage);
+        let rest = expect(read.rest, b"}", Problem::CloseBrace)?;
+        all = all.then(Read { rest, ..read });
         count += 1;
     }
     out.insert(start, Tag::App as u32, count);
-    Ok(Read { rest, stage })
+    Ok(all)
 }

@@ -12,7 +12,7 @@ use Rattle.syntax.proofs.Gives.{then_is, option_is, option_not, bind_not}
 use Rattle.syntax.proofs.Following.{fails, follows_by}
 use Rattle.syntax.proofs.TermReadings.{bind_is, then_not, term_at, script_at, lower-none, lower-some, lower_is, follows_up, links_as, links_more, links_last, apply_args, links_fail, opens_fail, bound_then, wrap-then, arrow_none, arrow_alone, arrow_to, term_arrow, atom_leaf, atom_block}
 use Rattle.syntax.proofs.Chains.{chain_start, chain_more, chain_last, chain_none}
-use Rattle.syntax.proofs.Rows.{row_start, row_more, row_none, row_end, lower_link}
+use Rattle.syntax.proofs.Rows.{row_start, row_more, row_as, row_none, row_end, lower_link}
 use Rattle.syntax.proofs.terms.+reader.Goals as goal
 
 -- exact
@@ -154,9 +154,10 @@ uses-returns-in_err-next t c =
 pub uses-loop-out-preserved : goal.uses-loop-out-preserved
 uses-loop-out-preserved t c =
     let d = c.in_ok-next.ensures in
-    row_more (λ n. (readers n).row) _ _ _ _ _ _ _ _ _ _ _ d.value c.loop-out.invariant
+    row_as (λ n. (readers n).row) _ _ _ _ _ _ _ _ c.then-all.ensures.rest
+    (row_more (λ n. (readers n).row) _ _ _ _ _ _ _ _ _ _ _ d.value c.loop-out.invariant
     (λ h m k. cond-true _ _ _ (sym c.loop-out-test.ensures) ∙ then_is _ _ (d.reads (suc m) (omega (arith, k))) refl)
-    d.wrote d.stage c.max-stage.ensures d.fewer d.room
+    d.wrote d.stage c.then-all.ensures.stage d.fewer d.room)
 
 pub uses-returns : goal.uses-returns
 uses-returns t c =
@@ -234,45 +235,45 @@ block-returns t c =
 
 -- term and script
 
-pub term-loop-link-init : goal.term-loop-link-init
-term-loop-link-init t c = chain_start term_reader _ _
+pub term-loop-read-init : goal.term-loop-read-init
+term-loop-read-init t c = chain_start term_reader _ _
 
-pub term-returns-in_err-link : goal.term-returns-in_err-link
-term-returns-in_err-link t c =
+pub term-returns-in_err-read : goal.term-returns-in_err-read
+term-returns-in_err-read t c =
     fails _ _ _ _ _ _ _ _ c.from_residual.result c.from_residual.ensures.0
-    (chain_none term_reader read_term (λ ts. refl) (λ n ts. refl) _ _ _ _ _ c.loop-link.invariant c.in_err-link.ensures)
+    (chain_none term_reader read_term (λ ts. refl) (λ n ts. refl) _ _ _ _ _ c.loop-read.invariant c.in_err-read.ensures)
 
-pub term-loop-link-preserved : goal.term-loop-link-preserved
-term-loop-link-preserved t c =
-    let bs = c.loop-link.rest.now in
-    chain_more term_reader read_term (λ ts. refl) (λ n ts. refl) c.args.bytes.now c.args.out.now c.loop-link.out c.term_link.new.out bs c.loop-link.stage c.max-stage.result c.in-More.read
-    c.max-stage.ensures c.loop-link.invariant (links_more read_term term_reader bs c.loop-link.out c.term_link.new.out c.in_ok-link.link c.in-More.read c.in-More.is c.in_ok-link.ensures)
+pub term-loop-read-preserved : goal.term-loop-read-preserved
+term-loop-read-preserved t c =
+    let bs = c.loop-read.all.rest.now in
+    chain_more term_reader read_term (λ ts. refl) (λ n ts. refl) c.args.bytes.now c.args.out.now c.loop-read.out c.term_link.new.out bs c.loop-read.all.stage c.in-More.read c.then-all.result
+    c.then-all.ensures.rest c.then-all.ensures.stage c.loop-read.invariant (links_more read_term term_reader bs c.loop-read.out c.term_link.new.out c.in_ok-read.field-0 c.in-More.read c.in-More.is c.in_ok-read.ensures)
 
 pub term-returns-in-Last : goal.term-returns-in-Last
 term-returns-in-Last t c =
-    let bs = c.loop-link.rest.now in
-    chain_last term_reader read_term (λ ts. refl) (λ n ts. refl) c.args.bytes.now c.args.out.now c.loop-link.out c.term_link.new.out bs c.loop-link.stage c.in-Last.read _ refl
-    c.max.ensures c.loop-link.invariant (links_last read_term term_reader bs c.loop-link.out c.term_link.new.out c.in_ok-link.link c.in-Last.read c.in-Last.is c.in_ok-link.ensures)
+    let bs = c.loop-read.all.rest.now in
+    chain_last term_reader read_term (λ ts. refl) (λ n ts. refl) c.args.bytes.now c.args.out.now c.loop-read.out c.term_link.new.out bs c.loop-read.all.stage c.in-Last.read c.then.result c.then.ensures.rest
+    c.then.ensures.stage c.loop-read.invariant (links_last read_term term_reader bs c.loop-read.out c.term_link.new.out c.in_ok-read.field-0 c.in-Last.read c.in-Last.is c.in_ok-read.ensures)
 
-pub script-loop-link-init : goal.script-loop-link-init
-script-loop-link-init t c = chain_start script_reader _ _
+pub script-loop-read-init : goal.script-loop-read-init
+script-loop-read-init t c = chain_start script_reader _ _
 
-pub script-returns-in_err-link : goal.script-returns-in_err-link
-script-returns-in_err-link t c =
+pub script-returns-in_err-read : goal.script-returns-in_err-read
+script-returns-in_err-read t c =
     fails _ _ _ _ _ _ _ _ c.from_residual.result c.from_residual.ensures.0
-    (chain_none script_reader read_script (λ ts. refl) (λ n ts. refl) _ _ _ _ _ c.loop-link.invariant c.in_err-link.ensures)
+    (chain_none script_reader read_script (λ ts. refl) (λ n ts. refl) _ _ _ _ _ c.loop-read.invariant c.in_err-read.ensures)
 
-pub script-loop-link-preserved : goal.script-loop-link-preserved
-script-loop-link-preserved t c =
-    let bs = c.loop-link.rest.now in
-    chain_more script_reader read_script (λ ts. refl) (λ n ts. refl) c.args.bytes.now c.args.out.now c.loop-link.out c.script_link.new.out bs c.loop-link.stage c.max-stage.result c.in-More.read
-    c.max-stage.ensures c.loop-link.invariant (links_more read_script script_reader bs c.loop-link.out c.script_link.new.out c.in_ok-link.link c.in-More.read c.in-More.is c.in_ok-link.ensures)
+pub script-loop-read-preserved : goal.script-loop-read-preserved
+script-loop-read-preserved t c =
+    let bs = c.loop-read.all.rest.now in
+    chain_more script_reader read_script (λ ts. refl) (λ n ts. refl) c.args.bytes.now c.args.out.now c.loop-read.out c.script_link.new.out bs c.loop-read.all.stage c.in-More.read c.then-all.result
+    c.then-all.ensures.rest c.then-all.ensures.stage c.loop-read.invariant (links_more read_script script_reader bs c.loop-read.out c.script_link.new.out c.in_ok-read.field-0 c.in-More.read c.in-More.is c.in_ok-read.ensures)
 
 pub script-returns-in-Last : goal.script-returns-in-Last
 script-returns-in-Last t c =
-    let bs = c.loop-link.rest.now in
-    chain_last script_reader read_script (λ ts. refl) (λ n ts. refl) c.args.bytes.now c.args.out.now c.loop-link.out c.script_link.new.out bs c.loop-link.stage c.in-Last.read _ refl
-    c.max.ensures c.loop-link.invariant (links_last read_script script_reader bs c.loop-link.out c.script_link.new.out c.in_ok-link.link c.in-Last.read c.in-Last.is c.in_ok-link.ensures)
+    let bs = c.loop-read.all.rest.now in
+    chain_last script_reader read_script (λ ts. refl) (λ n ts. refl) c.args.bytes.now c.args.out.now c.loop-read.out c.script_link.new.out bs c.loop-read.all.stage c.in-Last.read c.then.result c.then.ensures.rest
+    c.then.ensures.stage c.loop-read.invariant (links_last read_script script_reader bs c.loop-read.out c.script_link.new.out c.in_ok-read.field-0 c.in-Last.read c.in-Last.is c.in_ok-read.ensures)
 
 -- term_link
 
@@ -364,9 +365,10 @@ apply-loop-inner-preserved t c =
     let e = c.in-Some.ensures in
     let g = c.in_ok-read.ensures in
     let b = c.in_ok-rest.ensures in
-    row_more (λ n. (readers n).args) _ _ _ _ _ _ _ _ _ _ _ g.value c.loop-inner.invariant
+    row_as (λ n. (readers n).args) _ _ _ _ _ _ _ _ c.then-all.ensures.rest
+    (row_more (λ n. (readers n).args) _ _ _ _ _ _ _ _ _ _ _ g.value c.loop-inner.invariant
     (λ h m k. option_is _ _ _ e.0 (then_is _ _ (script_at m _ ∙ g.reads m (omega (arith, k, e.1.fewer))) (bind_is _ _ b.0 refl)))
-    g.wrote g.stage c.max-stage.ensures (omega (arith, e.1.fewer, g.fewer, b.1.fewer)) (omega (arith, e.1.shorter, g.room, b.1.shorter))
+    g.wrote g.stage c.then-all.ensures.stage (omega (arith, e.1.fewer, g.fewer, b.1.fewer)) (omega (arith, e.1.shorter, g.room, b.1.shorter)))
 
 pub apply-returns : goal.apply-returns
 apply-returns t c =
