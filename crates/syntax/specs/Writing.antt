@@ -1,6 +1,10 @@
 -- Words written behind those that stand.
-use Rattle.std.specs.Prelude.{◌≡◌, ℕ, ◌+◌, List, ◌++◌, length, take, drop}
+use Rattle.std.specs.Prelude.{◌≡◌, ℕ, ◌+◌, ◌≤◌, List, ◌++◌, length, take, drop}
 use Rattle.syntax.specs.declared.write.Writer.{Writer}
+
+-- The buffer has room for n more words.
+abbrev pub HasRoom : Writer → ℕ → Type 0
+HasRoom w n = w.len + n ≤ length w.words.now
 
 -- The words that stand are kept, new ones are written behind them, and the buffer is the same.
 pub record Appends (before : Writer) (new : List ℕ) (after : Writer) : Type 0 where

@@ -4,6 +4,7 @@ ghost use Rattle.syntax.specs.Surface.{at_stage, expr_stage};
 ghost use Rattle.syntax.specs.Tokens.{tokens};
 ghost use Rattle.syntax.specs.Reader.{read_dots, read_word};
 ghost use Rattle.syntax.specs.Parsing.{Follows, FollowsExpr, expr_words, read_full, read_sort, read_leaf};
+ghost use Rattle.syntax.specs.Writing.{HasRoom};
 
 use crate::problem::{Problem, Stop};
 use crate::reading::{Read, expect_name, expect_number};
@@ -20,7 +21,7 @@ fn indexed_stage(name: &[u8]) -> u32
 
 // Behind @: a name.
 fn full_name<'a>(bytes: &'a [u8], out: &mut Writer<'_>) -> Result<Read<'a>, Stop>
-    requires { out.old.len + 4 * length bytes.now ≤ length out.old.words.now }
+    requires { HasRoom out.old (4 * length bytes.now) }
     ensures { FollowsExpr (λ n. read_full) bytes.now out.old out.new result }
 {
     let word = expect_name(bytes)?;
@@ -33,7 +34,7 @@ fn full_name<'a>(bytes: &'a [u8], out: &mut Writer<'_>) -> Result<Read<'a>, Stop
 
 // Behind Type: a level.
 fn sort<'a>(bytes: &'a [u8], out: &mut Writer<'_>) -> Result<Read<'a>, Stop>
-    requires { out.old.len + 4 * length bytes.now ≤ length out.old.words.now }
+    requires { HasRoom out.old (4 * length bytes.now) }
     ensures { FollowsExpr (λ n. read_sort) bytes.now out.old out.new result }
 {
     let level = expect_number(bytes)?;
@@ -48,7 +49,7 @@ fn sort<'a>(bytes: &'a [u8], out: &mut Writer<'_>) -> Result<Read<'a>, Stop>
 fn dots<'a>(name: &[u8], bytes: &'a [u8], out: &mut Writer<'_>) -> Result<Read<'a>, Stop>
     requires short { length name.now ≤ 32 }
     requires some { 1 ≤ length name.now }
-    requires room { out.old.len + 4 * (length name.now + length bytes.now) ≤ length out.old.words.now }
+    requires room { HasRoom out.old (4 * (length name.now + length bytes.now)) }
     ensures { Follows (λ n. read_dots name.now) expr_words expr_stage 1 (tokens bytes.now) (4 * (length name.now + length bytes.now)) out.old out.new result }
 {
     let first = expect_number(bytes)?;
@@ -72,7 +73,7 @@ fn dots<'a>(name: &[u8], bytes: &'a [u8], out: &mut Writer<'_>) -> Result<Read<'
 
 // A word: a name, or numbers behind it.
 fn word<'a>(bytes: &'a [u8], out: &mut Writer<'_>) -> Result<Read<'a>, Stop>
-    requires { out.old.len + 4 * length bytes.now ≤ length out.old.words.now }
+    requires { HasRoom out.old (4 * length bytes.now) }
     ensures { FollowsExpr (λ n. read_word) bytes.now out.old out.new result }
 {
     let word = read_indexed(bytes).ok_or(Stop {
@@ -97,7 +98,7 @@ fn word<'a>(bytes: &'a [u8], out: &mut Writer<'_>) -> Result<Read<'a>, Stop>
 
 // Any of these.
 pub fn leaf<'a>(bytes: &'a [u8], out: &mut Writer<'_>) -> Result<Read<'a>, Stop>
-    requires { out.old.len + 4 * length bytes.now ≤ length out.old.words.now }
+    requires { HasRoom out.old (4 * length bytes.now) }
     ensures { FollowsExpr (λ n. read_leaf) bytes.now out.old out.new result }
 {
     if let Some(rest) = eat(bytes, b"@") {

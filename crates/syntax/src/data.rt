@@ -3,6 +3,7 @@ ghost use Rattle.std.specs.Prelude.{◌+◌, ◌*◌, ◌≤◌, length};
 ghost use Rattle.syntax.specs.Surface.{params_stage, cons_stage, decl_stage, con_names, decl_names};
 ghost use Rattle.syntax.specs.Reader.{read_cons, read_data};
 ghost use Rattle.syntax.specs.Declaring.{Declares, read_con, con_words, con_name, con_stage, cons_words, decl_words};
+ghost use Rattle.syntax.specs.Writing.{HasRoom};
 
 use crate::declarations::{head, params};
 use crate::problem::{Problem, Stop};
@@ -18,8 +19,8 @@ fn constructor<'a>(
     names: &mut Writer<'_>,
 ) -> Result<Read<'a>, Stop>
     requires near { length bytes.now ≤ 32768 }
-    requires room { tree.old.len + 4 * length bytes.now ≤ length tree.old.words.now }
-    requires notes { names.old.len + 3 * length bytes.now ≤ length names.old.words.now }
+    requires room { HasRoom tree.old (4 * length bytes.now) }
+    requires notes { HasRoom names.old (3 * length bytes.now) }
     ensures { Declares 0 read_con con_words con_name con_stage bytes.now tree.old tree.new names.old names.new result }
 {
     let word = expect_name(bytes)?;
@@ -43,8 +44,8 @@ fn constructors<'a>(
     names: &mut Writer<'_>,
 ) -> Result<Read<'a>, Stop>
     requires near { length bytes.now ≤ 32768 }
-    requires room { tree.old.len + 4 * length bytes.now ≤ length tree.old.words.now }
-    requires notes { names.old.len + 3 * length bytes.now ≤ length names.old.words.now }
+    requires room { HasRoom tree.old (4 * length bytes.now) }
+    requires notes { HasRoom names.old (3 * length bytes.now) }
     ensures { Declares 1 read_cons cons_words con_names cons_stage bytes.now tree.old tree.new names.old names.new result }
 {
     let mut all = Read {
@@ -68,8 +69,8 @@ pub fn data_type<'a>(
     names: &mut Writer<'_>,
 ) -> Result<Read<'a>, Stop>
     requires near { length bytes.now ≤ 32768 }
-    requires room { tree.old.len + (1 + 4 * length bytes.now) ≤ length tree.old.words.now }
-    requires notes { names.old.len + 3 * length bytes.now ≤ length names.old.words.now }
+    requires room { HasRoom tree.old (1 + 4 * length bytes.now) }
+    requires notes { HasRoom names.old (3 * length bytes.now) }
     ensures { Declares 0 read_data decl_words decl_names decl_stage bytes.now tree.old tree.new names.old names.new result }
 {
     let start = head(Tag::Data, bytes, tree, names)?;

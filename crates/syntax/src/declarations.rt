@@ -7,6 +7,7 @@ ghost use Rattle.syntax.specs.Reader.{read_params, read_def, read_axiom};
 ghost use Rattle.syntax.specs.Tags.{tag_word};
 ghost use Rattle.syntax.specs.Parsing.{Follows, expr_words};
 ghost use Rattle.syntax.specs.Declaring.{Hides, Declares, read_typed, read_param, param_words, param_stage, params_words, read_head, head_words, head_names, head_stage, decl_words};
+ghost use Rattle.syntax.specs.Writing.{HasRoom};
 
 use crate::problem::{Problem, Stop};
 use crate::reading::{Read, expect, expect_name, expect_number};
@@ -30,7 +31,7 @@ fn hide(bytes: &[u8]) -> Result<Number<'_>, Stop>
 
 // : and a term.
 fn typed<'a>(bytes: &'a [u8], out: &mut Writer<'_>) -> Result<Read<'a>, Stop>
-    requires { out.old.len + 4 * length bytes.now ≤ length out.old.words.now }
+    requires { HasRoom out.old (4 * length bytes.now) }
     ensures { Follows read_typed expr_words expr_stage 1 (tokens bytes.now) (4 * length bytes.now) out.old out.new result }
 {
     let rest = expect(bytes, b":", Problem::Colon)?;
@@ -39,7 +40,7 @@ fn typed<'a>(bytes: &'a [u8], out: &mut Writer<'_>) -> Result<Read<'a>, Stop>
 
 // Behind ( : a parameter or a field.
 fn param<'a>(bytes: &'a [u8], out: &mut Writer<'_>) -> Result<Read<'a>, Stop>
-    requires { out.old.len + 4 * length bytes.now ≤ length out.old.words.now }
+    requires { HasRoom out.old (4 * length bytes.now) }
     ensures { Follows read_param param_words param_stage 1 (tokens bytes.now) (4 * length bytes.now) out.old out.new result }
 {
     let word = expect_name(bytes)?;
@@ -49,7 +50,7 @@ fn param<'a>(bytes: &'a [u8], out: &mut Writer<'_>) -> Result<Read<'a>, Stop>
 
 // Parameters or fields, each in brackets.
 pub fn params<'a>(bytes: &'a [u8], out: &mut Writer<'_>) -> Result<Read<'a>, Stop>
-    requires { out.old.len + (1 + 4 * length bytes.now) ≤ length out.old.words.now }
+    requires { HasRoom out.old (1 + 4 * length bytes.now) }
     ensures { Follows read_params params_words params_stage 0 (tokens bytes.now) (1 + 4 * length bytes.now) out.old out.new result }
 {
     let mut all = Read {
@@ -72,8 +73,8 @@ pub fn head<'a>(
     names: &mut Writer<'_>,
 ) -> Result<Read<'a>, Stop>
     requires near { length bytes.now ≤ 32768 }
-    requires room { tree.old.len + 4 * length bytes.now ≤ length tree.old.words.now }
-    requires notes { names.old.len + 3 * length bytes.now ≤ length names.old.words.now }
+    requires room { HasRoom tree.old (4 * length bytes.now) }
+    requires notes { HasRoom names.old (3 * length bytes.now) }
     ensures { Declares 0 read_head (head_words (tag_word tag)) head_names head_stage bytes.now tree.old tree.new names.old names.new result }
 {
     let word = expect_name(bytes)?;
@@ -95,8 +96,8 @@ pub fn definition<'a>(
     names: &mut Writer<'_>,
 ) -> Result<Read<'a>, Stop>
     requires near { length bytes.now ≤ 32768 }
-    requires room { tree.old.len + 4 * length bytes.now ≤ length tree.old.words.now }
-    requires notes { names.old.len + 3 * length bytes.now ≤ length names.old.words.now }
+    requires room { HasRoom tree.old (4 * length bytes.now) }
+    requires notes { HasRoom names.old (3 * length bytes.now) }
     ensures { Declares 0 read_def decl_words decl_names decl_stage bytes.now tree.old tree.new names.old names.new result }
 {
     let start = head(Tag::Def, bytes, tree, names)?;
@@ -118,8 +119,8 @@ pub fn assumption<'a>(
     names: &mut Writer<'_>,
 ) -> Result<Read<'a>, Stop>
     requires near { length bytes.now ≤ 32768 }
-    requires room { tree.old.len + 4 * length bytes.now ≤ length tree.old.words.now }
-    requires notes { names.old.len + 3 * length bytes.now ≤ length names.old.words.now }
+    requires room { HasRoom tree.old (4 * length bytes.now) }
+    requires notes { HasRoom names.old (3 * length bytes.now) }
     ensures { Declares 0 read_axiom decl_words decl_names decl_stage bytes.now tree.old tree.new names.old names.new result }
 {
     let start = head(Tag::Axiom, bytes, tree, names)?;

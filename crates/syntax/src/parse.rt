@@ -3,6 +3,7 @@ ghost use Rattle.std.specs.Prelude.{◌+◌, ◌*◌, ◌≤◌, length};
 ghost use Rattle.syntax.specs.Surface.{decl_stage, decl_names};
 ghost use Rattle.syntax.specs.Reader.{read_decl};
 ghost use Rattle.syntax.specs.Declaring.{Declares, DeclaresAll, Parses, decl_words};
+ghost use Rattle.syntax.specs.Writing.{HasRoom};
 
 use crate::data::data_type;
 use crate::declarations::{assumption, definition};
@@ -31,8 +32,8 @@ fn declaration<'a>(
     names: &mut Writer<'_>,
 ) -> Result<Read<'a>, Stop>
     requires near { length bytes.now ≤ 32768 }
-    requires room { tree.old.len + 4 * length bytes.now ≤ length tree.old.words.now }
-    requires notes { names.old.len + 3 * length bytes.now ≤ length names.old.words.now }
+    requires room { HasRoom tree.old (4 * length bytes.now) }
+    requires notes { HasRoom names.old (3 * length bytes.now) }
     ensures { Declares 0 read_decl decl_words decl_names decl_stage bytes.now tree.old tree.new names.old names.new result }
 {
     if let Some(rest) = eat(bytes, b"def") {
@@ -56,8 +57,8 @@ fn declaration<'a>(
 // All declarations, to the end of the bytes.
 fn declarations(bytes: &[u8], tree: &mut Writer<'_>, names: &mut Writer<'_>) -> Result<Parsed, Stop>
     requires near { length bytes.now ≤ 32768 }
-    requires room { tree.old.len + 4 * length bytes.now ≤ length tree.old.words.now }
-    requires notes { names.old.len + 3 * length bytes.now ≤ length names.old.words.now }
+    requires room { HasRoom tree.old (4 * length bytes.now) }
+    requires notes { HasRoom names.old (3 * length bytes.now) }
     ensures { DeclaresAll bytes.now tree.old tree.new names.old names.new result }
 {
     let mut all = Read {

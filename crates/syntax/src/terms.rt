@@ -6,6 +6,7 @@ ghost use Rattle.syntax.specs.Tree.{put_name};
 ghost use Rattle.syntax.specs.Tags.{tag_word};
 ghost use Rattle.syntax.specs.Reader.{read_term, read_atom, read_script, read_pi, read_arrow, read_intro, read_have, read_exact, read_apply};
 ghost use Rattle.syntax.specs.Parsing.{Follows, FollowsExpr, Opens, Links, expr_words, lower, level, read_bound, read_uses, read_fun, read_block, term_reader, script_reader};
+ghost use Rattle.syntax.specs.Writing.{HasRoom};
 
 use crate::atoms::leaf;
 use crate::problem::{Problem, Stop};
@@ -17,7 +18,7 @@ use crate::write::Writer;
 // A term.
 #[cycle(reader)]
 pub fn term<'a>(bytes: &'a [u8], out: &mut Writer<'_>) -> Result<Read<'a>, Stop>
-    requires { out.old.len + 4 * length bytes.now ≤ length out.old.words.now }
+    requires { HasRoom out.old (4 * length bytes.now) }
     ensures { FollowsExpr (lower read_term) bytes.now out.old out.new result }
 {
     let mut all = Read {
@@ -35,7 +36,7 @@ pub fn term<'a>(bytes: &'a [u8], out: &mut Writer<'_>) -> Result<Read<'a>, Stop>
 // A binder of a term, or its last part.
 #[cycle(reader)]
 fn term_link<'a>(bytes: &'a [u8], out: &mut Writer<'_>) -> Result<Link<'a>, Stop>
-    requires { out.old.len + 4 * length bytes.now ≤ length out.old.words.now }
+    requires { HasRoom out.old (4 * length bytes.now) }
     ensures { Links read_term term_reader bytes.now out.old out.new result }
 {
     if let Some(rest) = eat(bytes, b"fun") {
@@ -52,7 +53,7 @@ fn term_link<'a>(bytes: &'a [u8], out: &mut Writer<'_>) -> Result<Link<'a>, Stop
 pub fn bound<'a>(tag: Tag, word: Word<'a>, out: &mut Writer<'_>) -> Result<Read<'a>, Stop>
     requires some { 1 ≤ length word.name.now }
     requires short { length word.name.now ≤ 32 }
-    requires room { out.old.len + 4 * (length word.name.now + length word.rest.now) ≤ length out.old.words.now }
+    requires room { HasRoom out.old (4 * (length word.name.now + length word.rest.now)) }
     ensures { Follows (level read_bound) (λ a. tag_word tag ∷ put_name word.entry.name.now (expr_words a)) expr_stage 1 (tokens word.entry.rest.now) (4 * (length word.entry.name.now + length word.entry.rest.now)) out.old out.new result }
 {
     out.push_named(tag, word.name);
@@ -64,7 +65,7 @@ pub fn bound<'a>(tag: Tag, word: Word<'a>, out: &mut Writer<'_>) -> Result<Read<
 // Behind fun: the bound variable, up to =>.
 #[cycle(reader)]
 fn function<'a>(bytes: &'a [u8], out: &mut Writer<'_>) -> Result<Read<'a>, Stop>
-    requires { out.old.len + 4 * length bytes.now ≤ length out.old.words.now }
+    requires { HasRoom out.old (4 * length bytes.now) }
     ensures { Opens read_fun term_reader (tokens bytes.now) (4 * length bytes.now) out.old out.new result }
 {
     let word = read_binder(bytes).ok_or(Stop {
@@ -81,7 +82,7 @@ fn function<'a>(bytes: &'a [u8], out: &mut Writer<'_>) -> Result<Read<'a>, Stop>
 fn function_type<'a>(word: Word<'a>, out: &mut Writer<'_>) -> Result<Read<'a>, Stop>
     requires some { 1 ≤ length word.name.now }
     requires short { length word.name.now ≤ 32 }
-    requires room { out.old.len + 4 * (length word.name.now + length word.rest.now) ≤ length out.old.words.now }
+    requires room { HasRoom out.old (4 * (length word.name.now + length word.rest.now)) }
     ensures { Opens (λ s. read_pi s word.entry.name.now) term_reader (tokens word.entry.rest.now) (4 * (length word.entry.name.now + length word.entry.rest.now)) out.old out.new result }
 {
     let read = bound(Tag::Pi, word, out)?;
@@ -92,7 +93,7 @@ fn function_type<'a>(word: Word<'a>, out: &mut Writer<'_>) -> Result<Read<'a>, S
 // A row of atoms, and the arrow behind it if there is one.
 #[cycle(reader)]
 fn arrow<'a>(bytes: &'a [u8], out: &mut Writer<'_>) -> Result<Link<'a>, Stop>
-    requires { out.old.len + 4 * length bytes.now ≤ length out.old.words.now }
+    requires { HasRoom out.old (4 * length bytes.now) }
     ensures { Links read_arrow term_reader bytes.now out.old out.new result }
 {
     let start = out.len;
@@ -108,7 +109,7 @@ fn arrow<'a>(bytes: &'a [u8], out: &mut Writer<'_>) -> Result<Link<'a>, Stop>
 // A row of atoms: the first, used on the others.
 #[cycle(reader)]
 fn uses<'a>(bytes: &'a [u8], out: &mut Writer<'_>) -> Result<Read<'a>, Stop>
-    requires { out.old.len + 4 * length bytes.now ≤ length out.old.words.now }
+    requires { HasRoom out.old (4 * length bytes.now) }
     ensures { FollowsExpr (lower read_uses) bytes.now out.old out.new result }
 {
     let start = out.len;
@@ -127,7 +128,7 @@ fn uses<'a>(bytes: &'a [u8], out: &mut Writer<'_>) -> Result<Read<'a>, Stop>
 // An atom.
 #[cycle(reader)]
 fn atom<'a>(bytes: &'a [u8], out: &mut Writer<'_>) -> Result<Read<'a>, Stop>
-    requires { out.old.len + 4 * length bytes.now ≤ length out.old.words.now }
+    requires { HasRoom out.old (4 * length bytes.now) }
     ensures { FollowsExpr (lower read_atom) bytes.now out.old out.new result }
 {
     if let Some(rest) = eat(bytes, b"(") {
@@ -144,7 +145,7 @@ fn atom<'a>(bytes: &'a [u8], out: &mut Writer<'_>) -> Result<Read<'a>, Stop>
 // Behind by: a script in braces.
 #[cycle(reader)]
 fn block<'a>(bytes: &'a [u8], out: &mut Writer<'_>) -> Result<Read<'a>, Stop>
-    requires { out.old.len + 4 * length bytes.now ≤ length out.old.words.now }
+    requires { HasRoom out.old (4 * length bytes.now) }
     ensures { FollowsExpr (level read_block) bytes.now out.old out.new result }
 {
     let rest = expect(bytes, b"{", Problem::OpenBrace)?;
@@ -160,7 +161,7 @@ fn block<'a>(bytes: &'a [u8], out: &mut Writer<'_>) -> Result<Read<'a>, Stop>
 // A script.
 #[cycle(reader)]
 fn script<'a>(bytes: &'a [u8], out: &mut Writer<'_>) -> Result<Read<'a>, Stop>
-    requires { out.old.len + 4 * length bytes.now ≤ length out.old.words.now }
+    requires { HasRoom out.old (4 * length bytes.now) }
     ensures { FollowsExpr (lower read_script) bytes.now out.old out.new result }
 {
     let mut all = Read {
@@ -178,7 +179,7 @@ fn script<'a>(bytes: &'a [u8], out: &mut Writer<'_>) -> Result<Read<'a>, Stop>
 // A step of a script: one that leaves the rest to come, or the last.
 #[cycle(reader)]
 fn script_link<'a>(bytes: &'a [u8], out: &mut Writer<'_>) -> Result<Link<'a>, Stop>
-    requires { out.old.len + 4 * length bytes.now ≤ length out.old.words.now }
+    requires { HasRoom out.old (4 * length bytes.now) }
     ensures { Links read_script script_reader bytes.now out.old out.new result }
 {
     if let Some(rest) = eat(bytes, b"intro") {
@@ -201,7 +202,7 @@ fn script_link<'a>(bytes: &'a [u8], out: &mut Writer<'_>) -> Result<Link<'a>, St
 
 // Behind intro: a name.
 fn intro<'a>(bytes: &'a [u8], out: &mut Writer<'_>) -> Result<Read<'a>, Stop>
-    requires { out.old.len + 4 * length bytes.now ≤ length out.old.words.now }
+    requires { HasRoom out.old (4 * length bytes.now) }
     ensures { Opens read_intro script_reader (tokens bytes.now) (4 * length bytes.now) out.old out.new result }
 {
     let word = expect_name(bytes)?;
@@ -214,7 +215,7 @@ fn intro<'a>(bytes: &'a [u8], out: &mut Writer<'_>) -> Result<Read<'a>, Stop>
 // Behind have: a name, its type, and a script in braces.
 #[cycle(reader)]
 fn have<'a>(bytes: &'a [u8], out: &mut Writer<'_>) -> Result<Read<'a>, Stop>
-    requires { out.old.len + 4 * length bytes.now ≤ length out.old.words.now }
+    requires { HasRoom out.old (4 * length bytes.now) }
     ensures { Opens read_have script_reader (tokens bytes.now) (4 * length bytes.now) out.old out.new result }
 {
     let word = expect_name(bytes)?;
@@ -233,7 +234,7 @@ fn have<'a>(bytes: &'a [u8], out: &mut Writer<'_>) -> Result<Read<'a>, Stop>
 // Behind exact: a term.
 #[cycle(reader)]
 fn exact<'a>(bytes: &'a [u8], out: &mut Writer<'_>) -> Result<Read<'a>, Stop>
-    requires { out.old.len + 4 * length bytes.now ≤ length out.old.words.now }
+    requires { HasRoom out.old (4 * length bytes.now) }
     ensures { FollowsExpr (level read_exact) bytes.now out.old out.new result }
 {
     let read = term(bytes, out)?;
@@ -244,7 +245,7 @@ fn exact<'a>(bytes: &'a [u8], out: &mut Writer<'_>) -> Result<Read<'a>, Stop>
 // Behind apply: a term, used on the scripts in braces behind it.
 #[cycle(reader)]
 fn apply<'a>(bytes: &'a [u8], out: &mut Writer<'_>) -> Result<Read<'a>, Stop>
-    requires { out.old.len + 4 * length bytes.now ≤ length out.old.words.now }
+    requires { HasRoom out.old (4 * length bytes.now) }
     ensures { FollowsExpr (level read_apply) bytes.now out.old out.new result }
 {
     let start = out.len;

@@ -12,7 +12,7 @@ pub struct Writer<'w> {
 }
 
 impl<'w> Writer<'w> {
-    ghost use Rattle.syntax.specs.Writing.{Appends, Inserts};
+    ghost use Rattle.syntax.specs.Writing.{HasRoom, Appends, Inserts};
 
     // Nothing is written yet.
     pub fn new(words: &'w mut [u32]) -> Writer<'w>
@@ -33,7 +33,7 @@ impl<'w> Writer<'w> {
 
     // One word.
     pub fn push(&mut self, word: u32)
-        requires { self.old.len < length self.old.words.now }
+        requires { HasRoom self.old 1 }
         ensures { Appends self.old (word ∷ []) self.new }
     {
         self.words[self.len] = word;
@@ -42,7 +42,7 @@ impl<'w> Writer<'w> {
 
     // Two words.
     pub fn push_two(&mut self, first: u32, second: u32)
-        requires { self.old.len + 2 ≤ length self.old.words.now }
+        requires { HasRoom self.old 2 }
         ensures { Appends self.old (first ∷ (second ∷ [])) self.new }
     {
         self.push(first);
@@ -51,7 +51,7 @@ impl<'w> Writer<'w> {
 
     // The bytes of a name, a word each.
     fn push_bytes(&mut self, name: &[u8])
-        requires { self.old.len + length name.now ≤ length self.old.words.now }
+        requires { HasRoom self.old (length name.now) }
         ensures { Appends self.old name.now self.new }
     {
         for b in name {
@@ -61,7 +61,7 @@ impl<'w> Writer<'w> {
 
     // A name: its length and its bytes.
     pub fn push_name(&mut self, name: &[u8])
-        requires room { self.old.len + (1 + length name.now) ≤ length self.old.words.now }
+        requires room { HasRoom self.old (1 + length name.now) }
         requires short { length name.now ≤ 32 }
         ensures { Appends self.old (length name.now ∷ name.now) self.new }
     {
@@ -71,7 +71,7 @@ impl<'w> Writer<'w> {
 
     // A tag and a name.
     pub fn push_named(&mut self, tag: Tag, name: &[u8])
-        requires room { self.old.len + (2 + length name.now) ≤ length self.old.words.now }
+        requires room { HasRoom self.old (2 + length name.now) }
         requires short { length name.now ≤ 32 }
         ensures { Appends self.old (tag_word tag ∷ (length name.now ∷ name.now)) self.new }
     {
@@ -81,7 +81,7 @@ impl<'w> Writer<'w> {
 
     // A note of a declared name, with the number of bytes left behind it.
     pub fn push_note(&mut self, left: usize, name: &[u8])
-        requires room { self.old.len + (2 + length name.now) ≤ length self.old.words.now }
+        requires room { HasRoom self.old (2 + length name.now) }
         requires short { length name.now ≤ 32 }
         requires near { left ≤ 32768 }
         ensures { Appends self.old (left ∷ (length name.now ∷ name.now)) self.new }
@@ -92,7 +92,7 @@ impl<'w> Writer<'w> {
 
     // The same word so many times.
     fn push_times(&mut self, word: u32, count: usize)
-        requires { self.old.len + count ≤ length self.old.words.now }
+        requires { HasRoom self.old count }
         ensures { Appends self.old (replicate count word) self.new }
     {
         let end = self.len + count;
@@ -103,7 +103,7 @@ impl<'w> Writer<'w> {
     // The same word so many times, before what is written from a place on.
     pub fn insert(&mut self, start: usize, word: u32, count: usize)
         requires order { start ≤ self.old.len }
-        requires room { self.old.len + count ≤ length self.old.words.now }
+        requires room { HasRoom self.old count }
         ensures { Inserts self.old start (replicate count word) self.new }
     {
         self.push_times(word, count);
