@@ -1,5 +1,5 @@
 // A text as declarations: within the limits, with each name declared once, read to the end.
-ghost use Rattle.std.specs.Prelude.{◌+◌, ◌*◌, ◌≤◌, length};
+ghost use Rattle.std.specs.Prelude.{◌*◌, ◌≤◌, length};
 ghost use Rattle.syntax.specs.Surface.{decl_stage, decl_names};
 ghost use Rattle.syntax.specs.Reader.{read_decl};
 ghost use Rattle.syntax.specs.Declaring.{Declares, DeclaresAll, Parses, decl_words};

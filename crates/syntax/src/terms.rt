@@ -158,7 +158,8 @@ fn block<'a>(bytes: &'a [u8], out: &mut Writer<'_>) -> Result<Read<'a>, Stop>
     })
 }
 
-// A script.
+// A script. The loop is that of term: one loop for both would take the link as a closure that calls back into this cycle of calls,
+// with clauses of its own, and be no plainer.
 #[cycle(reader)]
 fn script<'a>(bytes: &'a [u8], out: &mut Writer<'_>) -> Result<Read<'a>, Stop>
     requires { HasRoom out.old (4 * length bytes.now) }

@@ -1,5 +1,5 @@
 // Words written one behind the other.
-ghost use Rattle.std.specs.Prelude.{◌≡◌, ◌+◌, ◌<◌, ◌≤◌, [], ◌∷◌, length, take, replicate};
+ghost use Rattle.std.specs.Prelude.{◌≡◌, ◌+◌, ◌≤◌, [], ◌∷◌, length, take, replicate};
 ghost use Rattle.syntax.specs.Tags.{tag_word};
 
 use crate::tag::Tag;
