@@ -17,7 +17,7 @@ use Rattle.terms.proofs.Nodes.{put-length}
 use Rattle.reduction.specs.Lookup.{Declared as Extends}
 use Rattle.kernel.specs.Checking.{CoreEntry}
 use Rattle.resolver.specs.Resolving.{basic, nodes, basic_decl}
-use Rattle.resolver.specs.Entries.{unhidden, decl_nodes, put_entry, DeclWritten, EntryWritten as Written, DeclResolves}
+use Rattle.resolver.specs.Entries.{unhidden, decl_nodes, put_entry, DeclWritten, FormWritten as Written, DeclResolves}
 use Rattle.resolver.specs.declared.declarations.Declared.{Declared}
 use Rattle.resolver.specs.declared.walk.Nowhere.{Nowhere}
 use Rattle.resolver.specs.Names.{GlobalsAt}

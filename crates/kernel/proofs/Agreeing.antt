@@ -1,7 +1,7 @@
 -- Two terms, one above the other on the heap, while the upper one is reduced.
 use Rattle.std.proofs.Common.{◌≡◌, ℕ, Bool, true, false, ◌+◌, ◌*◌, ◌<◌, ◌≤◌, ◌⊎◌, List, [], ◌++◌, length, take, drop, sym, refl, ap, ◌∙◌, subst as tr, inl, inr, arith}
 use mathlib.Core.Option.{some}
-use Rattle.std.specs.Prelude.{Some, None, Option as Maybe, Ok, Err, Result}
+use Rattle.std.specs.Prelude.{Ok, Err, Result}
 use Rattle.theory.specs.Terms.{Term, size}
 use Rattle.terms.specs.Words.{put, At, Holds, Decides}
 use Rattle.terms.specs.Writing.{Appends}
@@ -11,7 +11,7 @@ use Rattle.reduction.specs.Stepping.{Stands}
 use Rattle.theory.specs.Environment.{Env}
 use Rattle.theory.specs.Reduction.{normal_steps}
 use Rattle.theory.proofs.NormalForms.{NormalForm}
-use Rattle.kernel.specs.Resting.{Above, Rests, Agrees, AgreesNormal, FullPair}
+use Rattle.kernel.specs.Resting.{Rests, Agrees, AgreesNormal, FullPair}
 use Rattle.kernel.specs.declared.failure.Limit.{Limit}
 use Rattle.kernel.specs.declared.failure.Limit.TheVariants.{Spent, NoRoom}
 use Rattle.kernel.proofs.Reduced.{stands_within}
@@ -42,13 +42,6 @@ pair h₀ h₁ h₂ top end last stop c u new s l a b =
     let (s₂, k₂) = stands_kept h₁ h₂ top end stop c (put u []) s₁ b in
     record { lower = s₂; upper = rw (ap (λ (n : ℕ). n) (sym (written_end h₁ h₂ end stop u b))) (at_written h₁ h₂ end stop u (stands_within h₁ top end c s₁).1 b); kept = k₂ ∙ k₁ }
 
--- The copy fits, or it does not.
-pub above_some : {heap after : List ℕ} {end stop : ℕ} {r : Maybe ℕ} (stack : ℕ) (a : Term) → r ≡ Some stop → Above heap end stack a after r → Appends heap end (put a []) after stop
-above_some {heap} {after} {end} stack a p h = tr (Above heap end stack a after) p h
-
-pub above_none : {stack : ℕ} {r : Maybe ℕ} (heap after : List ℕ) (end : ℕ) (a : Term) → r ≡ None → Above heap end stack a after r → (length heap < end + 3 * size a) ⊎ (stack < 3 * size a)
-above_none {stack} heap after end a p h = tr (Above heap end stack a after) p h
-
 -- The two normal forms are compared.
 pub normal_compares : (e : Env) (steps most : ℕ) (heap : List ℕ) (top stack : ℕ) (a c u : Term) (after : List ℕ) (b : Bool) → NormalForm e a u → take top after ≡ take top heap → Decides (c ≡ u) b
     → AgreesNormal e steps most heap top stack a c after (Ok b)
@@ -61,12 +54,6 @@ pub normal_limited : (e : Env) (steps most : ℕ) (heap heap₁ : List ℕ) (top
 normal_limited e steps most heap heap₁ top end stack stack₁ a c after Spent p q r h = h
 normal_limited e steps most heap heap₁ top end stack stack₁ a c after NoRoom p q r (u, m, i, j, large) =
     (u, m, i, j, elim large [ inl x ↦ inl (omega (arith, x, p, q)) | inr y ↦ inr (omega (arith, y, r)) ])
-
--- Its copy does not fit.
-pub normal_uncopied : (e : Env) (steps most : ℕ) (heap : List ℕ) (top end stack : ℕ) (a c : Term) (after : List ℕ) → end ≡ top + 3 * size c → steps ≤ most
-    → (length heap < end + 3 * size a) ⊎ (stack < 3 * size a) → AgreesNormal e steps most heap top stack a c after (Err NoRoom)
-normal_uncopied e steps most heap top end stack a c after p l large =
-    (a, 0, omega (arith, l), refl, elim large [ inl x ↦ inl (omega (arith, x, p)) | inr y ↦ inr (omega (arith, y)) ])
 
 -- The term on top was reduced to its normal form before.
 pub agrees_by : (e : Env) (steps most : ℕ) (h₀ h₁ h₂ : List ℕ) (top stop stack stack₂ : ℕ) (a c n : Term) (r : Result Bool Limit) (f : NormalForm e c n) → 0 + f.n ≤ most → Appends h₀ top (put n []) h₁ stop → top ≤ length h₀

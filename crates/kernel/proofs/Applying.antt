@@ -11,7 +11,7 @@ use Rattle.terms.proofs.Appending.{append_keeps}
 use Rattle.theory.specs.Question.{TakesLonger, entry_size}
 use Rattle.kernel.specs.Inference.{Has, Untyped, NeedsMore, held}
 use Rattle.kernel.specs.Machine.{place, Task, Way, Sensible, Kept}
-use Rattle.std.specs.Prelude.{Some, None, Option as Maybe, Ok, Err, Result, IsErrAnd}
+use Rattle.std.specs.Prelude.{Ok, Err, Result, IsErrAnd}
 use Rattle.std.proofs.lemmas.Result.{err_from_is_err_and}
 use Rattle.theory.specs.Environment.{Env}
 use Rattle.kernel.specs.Failures.{failure_of}
@@ -19,7 +19,7 @@ use Rattle.kernel.specs.declared.failure.Failure.{Failure}
 use Rattle.kernel.specs.declared.failure.Limit.{Limit}
 use Rattle.kernel.specs.declared.failure.Limit.TheVariants as limit
 use Rattle.kernel.specs.declared.turn.Turn.{Turn}
-use Rattle.kernel.specs.Resting.{Agrees, Instance, OneForm, TwoForms, FullPair}
+use Rattle.kernel.specs.Resting.{Agrees, OneForm, TwoForms, FullPair}
 use Rattle.kernel.specs.Turns.{Behind, Turned}
 use Rattle.kernel.proofs.Walk.{walk_context, app_up, app_up_same, none_arg}
 use Rattle.kernel.proofs.Room.{questioned, function_questioned, reached_start, reached_by}
@@ -109,10 +109,3 @@ agrees_yes e steps most heap top stack a c after b p h = tr (λ (x : Bool). Agre
 
 pub agrees_no : (e : Env) (steps most : ℕ) (heap : List ℕ) (top stack : ℕ) (a c : Term) (after : List ℕ) (b : Bool) → b ≡ false → Agrees e steps most heap top stack a c after (Ok b) → TwoForms e a c
 agrees_no e steps most heap top stack a c after b p h = tr (λ (x : Bool). Agrees e steps most heap top stack a c after (Ok x)) p h
-
--- The instance fits, or it does not.
-pub instance_some : {heap after : List ℕ} {kept stop : ℕ} {r : Maybe ℕ} (stack : ℕ) (v : Term) → r ≡ Some stop → Instance heap kept stack v after r → Appends heap kept (put v []) after stop
-instance_some {heap} {after} {kept} stack v p h = tr (Instance heap kept stack v after) p h
-
-pub instance_none : {stack : ℕ} {r : Maybe ℕ} (heap after : List ℕ) (kept : ℕ) (v : Term) → r ≡ None → Instance heap kept stack v after r → (length heap < kept + 3 * size v) ⊎ (stack < 6 * size v)
-instance_none {stack} heap after kept v p h = tr (Instance heap kept stack v after) p h

@@ -1,5 +1,5 @@
 -- The terms of an entry as tasks of inference, and what their answers say of the entry.
-use Rattle.std.proofs.Common.{◌≡◌, ℕ, Bool, true, false, suc, ◌+◌, ◌*◌, ◌<◌, ◌≤◌, ◌⊎◌, List, [], length, sym, refl, ap, ◌∙◌, subst as tr, inl, inr, arith}
+use Rattle.std.proofs.Common.{◌≡◌, ℕ, Bool, true, false, suc, ◌+◌, ◌*◌, ◌≤◌, ◌⊎◌, List, [], length, sym, refl, ap, ◌∙◌, subst as tr, inl, inr, arith}
 use mathlib.Core.Option.{some}
 use Rattle.std.proofs.lemmas.List.{drop_all}
 use Rattle.theory.specs.Terms.{Term, sort, size, depth}
@@ -111,12 +111,6 @@ level_failed {k} {x} most heap after heap₂ stack s h e l m NoRoom r w o =
     let (d, p, q) = err_from_is_err_and r w in
     rw (p, q) (type_full {k = k} z_end (length heap) heap₂ 0 stack s h refl l m (tr (λ (n : ℕ). Overfull k.env n (length heap) 0 stack x) (sym e) o))
 
--- No type is inferred.
-pub sort_failed : (k : Task) (heap : List ℕ) (heap₂ : ℕ) (f : Failure) (r : Result ⊤ Failure) → IsErrAnd r (λ d. d ≡ f) → length heap ≡ heap₂ → Answers k heap (Err f) → OfSort k heap₂ r
-sort_failed k heap heap₂ Refused r w l o = let (d, p, q) = err_from_is_err_and r w in rw (p, q) (λ (i, h). o _ h)
-sort_failed k heap heap₂ Spent r w l o = let (d, p, q) = err_from_is_err_and r w in rw (p, q) o
-sort_failed k heap heap₂ NoRoom r w l o = let (d, p, q) = err_from_is_err_and r w in rw (p, q) (tr (λ (n : ℕ). NeedsMore k.env k.entry k.most (16 * entry_size k.entry + 2 * n)) l o)
-
 -- The answer about an axiom's type is the one about the axiom.
 pub axiom_checks : (e : Env) (a : Term) (most heap p : ℕ) (r : List ℕ) (o : Result ⊤ Failure) → OfSort (task e (assumed a) most a p r) heap o → Checks e (assumed a) most heap o
 axiom_checks e a most heap p r (Ok done) h = h
@@ -140,19 +134,6 @@ agrees_copied e most h₀ h₁ h₂ top end stack stack₂ b a (Err limit.NoRoom
   right_within = h.right_within;
   right_reaches = h.right_reaches;
   large = elim h.large [ inl x ↦ inl (omega (arith, x, p)) | inr y ↦ inr (omega (arith, y, q)) ];
-}
-
-pub not_copied : (e : Env) (most heap top stack : ℕ) (b a : Term) → heap < top + 3 * size a → FullPair e 0 most heap top stack b a
-not_copied e most heap top stack b a l = record {
-  left_term = b;
-  left_steps = 0;
-  left_within = omega arith;
-  left_reaches = refl;
-  right_term = a;
-  right_steps = 0;
-  right_within = omega arith;
-  right_reaches = refl;
-  large = inl (omega (arith, l));
 }
 
 -- The body is of type b, which is compared with the type a.

@@ -1,6 +1,6 @@
 -- A turn down leaves less to be done.
 use Rattle.std.proofs.Common.{◌≡◌, ℕ, ◌+◌, ◌<◌, ◌≤◌, List, sym, subst as tr, arith}
-use Rattle.std.specs.Prelude.{Ok, Err, Result}
+use Rattle.std.specs.Prelude.{Ok}
 use Rattle.kernel.specs.Downs.{Enters}
 use Rattle.kernel.specs.Machine.{Task}
 use Rattle.kernel.specs.Turns.{Before, Turned, weight}

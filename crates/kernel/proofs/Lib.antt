@@ -3,7 +3,6 @@ pub mod Walk
 pub mod Computing
 pub mod Room
 pub mod Places
-pub mod Stacking
 pub mod Contexts
 pub mod Written
 pub mod Views

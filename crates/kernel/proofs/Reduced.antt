@@ -16,7 +16,6 @@ use Rattle.reduction.specs.Stepping.{Stands}
 use Rattle.kernel.specs.Inference.{Worked}
 use Rattle.kernel.specs.Reducing.{Overspent, Overfull, Halts, Sorts}
 use Rattle.kernel.specs.Resting.{Rests}
-use Rattle.theory.proofs.NormalForms.{NormalForm}
 use Rattle.reduction.specs.declared.reduce.Reduced.{Reduced}
 use Rattle.reduction.specs.declared.reduce.Reduced.TheVariants.{Reached, Resting}
 use Rattle.std.proofs.lemmas.Result.{err_from_is_err_and}

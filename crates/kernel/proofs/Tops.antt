@@ -11,7 +11,7 @@ use Rattle.terms.specs.declared.sign.Level.{Level}
 use Rattle.terms.specs.declared.sign.Sign.TheVariants.{Var, Sort, Def}
 use Rattle.terms.specs.Words.{put}
 use Rattle.terms.specs.Writing.{Appends}
-use Rattle.terms.specs.Copying.{Copies, Fits}
+use Rattle.terms.specs.Copying.{Copies}
 use Rattle.terms.specs.declared.copy.WriteError.{WriteError}
 use Rattle.terms.specs.declared.copy.WriteError.TheVariants as write
 use Rattle.std.specs.Result.{is_ok}
@@ -24,7 +24,7 @@ use Rattle.kernel.specs.Machine.{Core, place, leaf_type, Task, Way, Sensible, Ke
 use Rattle.kernel.specs.Leaves.{LeafSays, turn_of}
 use Rattle.kernel.specs.Turns.{Given, Turned}
 use Rattle.kernel.specs.declared.turn.Spot.{Spot}
-use Rattle.std.specs.Prelude.{Some, None, Option as Maybe, Ok, Err, Result}
+use Rattle.std.specs.Prelude.{Ok, Err, Result}
 use Rattle.kernel.specs.declared.failure.Failure.{Failure}
 use Rattle.kernel.specs.declared.failure.Failure.TheVariants.{Refused, Spent, NoRoom}
 use Rattle.kernel.proofs.Walk.{refused, walk_context}
@@ -37,13 +37,7 @@ pub appended_within : (before after : List ℕ) (top end : ℕ) (t : Term) → t
 appended_within before after top end t h p =
     omega (arith, p.ends, ap length p.words, length-take end after, length-take top before, length-append (take top before) (put t []))
 
--- The term fits, or it does not.
-pub fits_some : {before after : List ℕ} {start stop : ℕ} {r : Maybe ℕ} (t : Term) → r ≡ Some stop → Fits before start after t r → Appends before start (put t []) after stop
-fits_some {before} {after} {start} t p h = tr (Fits before start after t) p h
-
-pub fits_none : {r : Maybe ℕ} (before after : List ℕ) (start : ℕ) (t : Term) → r ≡ None → Fits before start after t r → length before < start + 3 * size t
-fits_none before after start t p h = tr (Fits before start after t) p h
-
+-- The term does not fit.
 pub copies_none : (before after : List ℕ) (start : ℕ) {stack : ℕ} (r : Result ℕ WriteError) (t : Term) → false ≡ is_ok r → Copies before start after stack t r → (length before < start + 3 * size t) ⊎ (stack < size t)
 copies_none before after start (Ok end) t p h = false-true p
 copies_none before after start (Err write.NoRoom) t p h = inl h

@@ -6,7 +6,7 @@ use Rattle.reduction.specs.Stepping.{Stands}
 use Rattle.theory.specs.Question.{TakesLonger, entry_size}
 use Rattle.kernel.specs.Inference.{Has, Untyped, NeedsMore}
 use Rattle.kernel.specs.Machine.{ContextAt, Task}
-use Rattle.kernel.specs.Turns.{Given}
+use Rattle.kernel.specs.Turns.{IsGiven}
 use Rattle.kernel.specs.declared.machine.Machine.{Machine}
 use Rattle.kernel.specs.declared.failure.Failure.{Failure}
 use Rattle.kernel.specs.declared.failure.Failure.TheVariants.{Refused, Spent, NoRoom}
@@ -20,10 +20,14 @@ pub record Begins (k : Task) (terms context frames : List ℕ) (at names : ℕ) 
   pub names_room : 2 * (length k.context + size k.term) ≤ length context
   pub frames_room : 7 * size k.term ≤ length frames
 
+-- The same in a machine.
+abbrev pub IsBegun : Task → Machine → ℕ → ℕ → Type 0
+IsBegun k m at names = Begins k m.terms.now m.context.now m.frames.now at names
+
 pub record CanInfer (m : Machine) (at names : ℕ) : Type 0 where
   pub task : Task
-  pub given : Given task m.env.index.now m.env.store.now m.heap.now m.stack.now
-  pub begins : Begins task m.terms.now m.context.now m.frames.now at names
+  pub given : IsGiven task m
+  pub begins : IsBegun task m at names
   pub steps : task.most ≡ m.most
 
 -- A type, which is the inferred one and stands on the heap; no type at all; a term in question with more steps; one with more room.

@@ -56,16 +56,26 @@ Turned k terms context frames heap (Err Refused) = Untyped k.env k.context k.ter
 Turned k terms context frames heap (Err Spent) = TakesLonger k.env k.entry k.most
 Turned k terms context frames heap (Err NoRoom) = NeedsMore k.env k.entry k.most (16 * entry_size k.entry + 2 * length heap)
 
+-- The same in a machine.
+abbrev pub IsGiven : Task → Machine → Type 0
+IsGiven k m = Given k m.env.index.now m.env.store.now m.heap.now m.stack.now
+
+abbrev pub IsBefore : Task → Machine → Spot → Type 0
+IsBefore k m s = Before k m.terms.now m.context.now m.frames.now m.heap.now s
+
+abbrev pub IsBehind : Task → Machine → Spot → ℕ → Type 0
+IsBehind k m s end = Behind k m.terms.now m.context.now m.frames.now m.heap.now s end
+
 -- A turn down, or back, can be made.
 pub record CanGo (m : Machine) (s : Spot) : Type 0 where
   pub task : Task
-  pub given : Given task m.env.index.now m.env.store.now m.heap.now m.stack.now
-  pub before : Before task m.terms.now m.context.now m.frames.now m.heap.now s
+  pub given : IsGiven task m
+  pub before : IsBefore task m s
 
 pub record CanReturn (m : Machine) (s : Spot) (end : ℕ) : Type 0 where
   pub task : Task
-  pub given : Given task m.env.index.now m.env.store.now m.heap.now m.stack.now
-  pub behind : Behind task m.terms.now m.context.now m.frames.now m.heap.now s end
+  pub given : IsGiven task m
+  pub behind : IsBehind task m s end
   pub steps : task.most ≡ m.most
 
 -- A frame of this kind stands on top.
@@ -83,14 +93,10 @@ pub record Keeps (m n : Machine) : Type 0 where
 
 -- What a turn down, or back, promises.
 abbrev pub Goes : Machine → Spot → Machine → Result Turn Failure → Type 0
-Goes m s n r =
-    (k : Task) → Given k m.env.index.now m.env.store.now m.heap.now m.stack.now → Before k m.terms.now m.context.now m.frames.now m.heap.now s
-    → Turned k m.terms.now n.context.now n.frames.now n.heap.now r
+Goes m s n r = (k : Task) → IsGiven k m → IsBefore k m s → Turned k m.terms.now n.context.now n.frames.now n.heap.now r
 
 abbrev pub Returns : Machine → Spot → ℕ → Machine → Result Turn Failure → Type 0
-Returns m s end n r =
-    (k : Task) → Given k m.env.index.now m.env.store.now m.heap.now m.stack.now → Behind k m.terms.now m.context.now m.frames.now m.heap.now s end
-    → k.most ≡ m.most → Turned k m.terms.now n.context.now n.frames.now n.heap.now r
+Returns m s end n r = (k : Task) → IsGiven k m → IsBehind k m s end → k.most ≡ m.most → Turned k m.terms.now n.context.now n.frames.now n.heap.now r
 
 -- What is left to be done: it falls with each turn.
 abbrev pub weight : ℕ → ℕ → Result Turn Failure → ℕ

@@ -39,7 +39,7 @@ fn instantiate(
 
 impl Machine<'_> {
     // Its type is the function's domain, up to conversion: the application's type is the codomain with the argument put in.
-    pub fn back_arg(&mut self, spot: Spot, end: usize) -> Result<Turn, Failure>
+    pub(crate) fn back_arg(&mut self, spot: Spot, end: usize) -> Result<Turn, Failure>
         requires can { CanReturn self.old spot end }
         requires tagged { Tagged self.old.frames.now spot.free Kind.Arg }
         ensures turned { Returns self.old spot end self.new result }

@@ -9,7 +9,7 @@ use crate::turn::{Spot, Turn};
 
 impl Machine<'_> {
     // Back with the type that stands from the spot's top to `end`.
-    pub fn back(&mut self, spot: Spot, end: usize) -> Result<Turn, Failure>
+    pub(crate) fn back(&mut self, spot: Spot, end: usize) -> Result<Turn, Failure>
         requires can { CanReturn self.old spot end }
         requires below { spot.free < length self.old.frames.now }
         ensures turned { Returns self.old spot end self.new result }

@@ -31,7 +31,7 @@ fn insert_pi(terms: &[u32], at: usize, heap: &mut [u32], top: usize, end: usize)
 
 impl Machine<'_> {
     // The function's type is that of its body behind its domain.
-    pub fn back_under_lam(&mut self, spot: Spot, end: usize) -> Result<Turn, Failure>
+    pub(crate) fn back_under_lam(&mut self, spot: Spot, end: usize) -> Result<Turn, Failure>
         requires can { CanReturn self.old spot end }
         requires tagged { Tagged self.old.frames.now spot.free Kind.UnderLam }
         ensures turned { Returns self.old spot end self.new result }
@@ -39,6 +39,7 @@ impl Machine<'_> {
         ensures keeps { Keeps self.old self.new }
     {
         let place = self.kept_number(spot.free + 1);
+        // Reborrowed, since the call lends one field as `&` and one as `&mut`.
         let heap = &mut *self.heap;
         let end = insert_pi(self.terms, place, heap, spot.top, end).ok_or(Failure::NoRoom)?;
         Ok(Turn::Back(spot.unbound(), end))

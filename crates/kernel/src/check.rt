@@ -7,9 +7,9 @@ ghost use Rattle.terms.specs.Words.{At};
 ghost use Rattle.reduction.specs.Stepping.{Stands};
 ghost use Rattle.kernel.specs.Environments.{PlainAt};
 ghost use Rattle.kernel.specs.Machine.{Task};
-ghost use Rattle.kernel.specs.Turns.{Given, Keeps};
+ghost use Rattle.kernel.specs.Turns.{IsGiven, Keeps};
 ghost use Rattle.kernel.specs.Resting.{Agrees};
-ghost use Rattle.kernel.specs.Answers.{CanInfer, Begins};
+ghost use Rattle.kernel.specs.Answers.{CanInfer, IsBegun};
 ghost use Rattle.kernel.specs.Checking.{Fits, AxiomAt, DefinitionAt, BodyAt, TwoTypes, OfSort, Checks};
 
 use crate::agree::agree;
@@ -22,8 +22,7 @@ impl Machine<'_> {
     // Is the term at a place of a sort? Its type is inferred and comes to a sort.
     fn check_type(&mut self, at: usize) -> Result<(), Failure>
         requires { CanInfer self.old at (length self.old.context.now) }
-        ensures sorted { (k : Task) → Given k self.old.env.index.now self.old.env.store.now self.old.heap.now self.old.stack.now
-            → Begins k self.old.terms.now self.old.context.now self.old.frames.now at (length self.old.context.now)
+        ensures sorted { (k : Task) → IsGiven k self.old → IsBegun k self.old at (length self.old.context.now)
             → k.most ≡ self.old.most → OfSort k (length self.new.heap.now) result }
         ensures keeps { Keeps self.old self.new }
     {
@@ -40,6 +39,7 @@ impl Machine<'_> {
             → At self.old.terms.now at a rest → Agrees e 0 self.old.most self.old.heap.now top (length self.old.stack.now) b a self.new.heap.now result }
         ensures keeps { Keeps self.old self.new }
     {
+        // Reborrowed, since the call lends one field as `&` and one as `&mut`.
         let heap = &mut *self.heap;
         let end = copy_term(self.terms, at, heap, top).ok_or(Limit::NoRoom)?;
         agree(self.env, self.heap, 0, top, end, self.stack, 0, self.most)

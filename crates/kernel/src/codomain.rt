@@ -10,7 +10,7 @@ use terms::sign::{Level, Sign, push_sign};
 
 impl Machine<'_> {
     // The codomain's type comes to a sort: the function type is of the larger.
-    pub fn back_under_pi(&mut self, spot: Spot, end: usize) -> Result<Turn, Failure>
+    pub(crate) fn back_under_pi(&mut self, spot: Spot, end: usize) -> Result<Turn, Failure>
         requires can { CanReturn self.old spot end }
         requires tagged { Tagged self.old.frames.now spot.free Kind.UnderPi }
         ensures turned { Returns self.old spot end self.new result }

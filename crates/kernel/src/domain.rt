@@ -8,9 +8,10 @@ use crate::sorted::to_level;
 use crate::turn::{Spot, Turn};
 use terms::number::push_number;
 
+// The two stay apart: they write other words over the frame, and a shared one would look at its kind again.
 impl Machine<'_> {
     // Of a function type: its level is kept.
-    pub fn back_pi(&mut self, spot: Spot, end: usize) -> Result<Turn, Failure>
+    pub(crate) fn back_pi(&mut self, spot: Spot, end: usize) -> Result<Turn, Failure>
         requires can { CanReturn self.old spot end }
         requires tagged { Tagged self.old.frames.now spot.free Kind.Pi }
         ensures turned { Returns self.old spot end self.new result }
@@ -29,7 +30,7 @@ impl Machine<'_> {
     }
 
     // Of a function: its place is kept.
-    pub fn back_lam(&mut self, spot: Spot, end: usize) -> Result<Turn, Failure>
+    pub(crate) fn back_lam(&mut self, spot: Spot, end: usize) -> Result<Turn, Failure>
         requires can { CanReturn self.old spot end }
         requires tagged { Tagged self.old.frames.now spot.free Kind.Lam }
         ensures turned { Returns self.old spot end self.new result }

@@ -24,7 +24,7 @@ fn enter(frames: &mut [u32], spot: Spot, kind: Kind) -> Turn
 
 impl Machine<'_> {
     // One turn down.
-    pub fn down(&mut self, spot: Spot) -> Result<Turn, Failure>
+    pub(crate) fn down(&mut self, spot: Spot) -> Result<Turn, Failure>
         requires { CanGo self.old spot }
         ensures turned { Goes self.old spot self.new result }
         ensures falls { Falls self.old (Turn.Down spot) result }
@@ -35,6 +35,7 @@ impl Machine<'_> {
             Sign::Lam => Ok(enter(self.frames, spot, Kind::Lam)),
             Sign::App => Ok(enter(self.frames, spot, Kind::Fun)),
             Sign::Var(index) => {
+                // Reborrowed, since a field that is passed as `&` loses its words in proofs.
                 let context = &mut *self.context;
                 let end = variable_type(
                     self.terms, context, spot.names, index, self.heap, spot.top, self.stack,

@@ -47,7 +47,9 @@ impl From<Limit> for Failure {
 impl From<WriteError> for Failure {
     ghost from_gives = { λ _ f. f ≡ NoRoom };
 
-    fn from(_error: WriteError) -> Failure {
-        Failure::NoRoom
+    fn from(error: WriteError) -> Failure {
+        match error {
+            WriteError::NoRoom | WriteError::NoStack => Failure::NoRoom,
+        }
     }
 }

@@ -10,7 +10,7 @@ use reduction::reduce::{Aim, Reduced};
 
 impl Machine<'_> {
     // Its type comes to a function type, which is kept: the argument is next.
-    pub fn back_fun(&mut self, spot: Spot, end: usize) -> Result<Turn, Failure>
+    pub(crate) fn back_fun(&mut self, spot: Spot, end: usize) -> Result<Turn, Failure>
         requires can { CanReturn self.old spot end }
         requires tagged { Tagged self.old.frames.now spot.free Kind.Fun }
         ensures turned { Returns self.old spot end self.new result }

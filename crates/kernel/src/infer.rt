@@ -1,8 +1,8 @@
 // Inference of a type: a loop over turns, with what waits in frames.
 ghost use Rattle.std.specs.Prelude.{◌≡◌};
 ghost use Rattle.kernel.specs.Machine.{Task};
-ghost use Rattle.kernel.specs.Turns.{Given, Keeps};
-ghost use Rattle.kernel.specs.Answers.{CanInfer, Begins, Answers};
+ghost use Rattle.kernel.specs.Turns.{IsGiven, Keeps};
+ghost use Rattle.kernel.specs.Answers.{CanInfer, IsBegun, Answers};
 
 use crate::failure::Failure;
 use crate::machine::Machine;
@@ -12,8 +12,7 @@ impl Machine<'_> {
     // The type of the term at a place, in the context from `names` on, written at the start of the heap: where it ends.
     pub fn infer(&mut self, at: usize, names: usize) -> Result<usize, Failure>
         requires { CanInfer self.old at names }
-        ensures answers { (k : Task) → Given k self.old.env.index.now self.old.env.store.now self.old.heap.now self.old.stack.now
-            → Begins k self.old.terms.now self.old.context.now self.old.frames.now at names → k.most ≡ self.old.most → Answers k self.new.heap.now result }
+        ensures answers { (k : Task) → IsGiven k self.old → IsBegun k self.old at names → k.most ≡ self.old.most → Answers k self.new.heap.now result }
         ensures keeps { Keeps self.old self.new }
     {
         let mut turn = Turn::Down(Spot {

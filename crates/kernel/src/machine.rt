@@ -20,7 +20,7 @@ pub struct Machine<'a> {
 
 impl Machine<'_> {
     // The number that stands there in a frame.
-    pub fn kept_number(&self, at: usize) -> usize
+    pub(crate) fn kept_number(&self, at: usize) -> usize
         requires { at + 2 ≤ length self.now.frames.now }
         ensures { (x : ℕ) (rest : List ℕ) → drop at self.now.frames.now ≡ number x rest → result ≡ x }
     {

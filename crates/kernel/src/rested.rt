@@ -11,7 +11,8 @@ use crate::failure::Limit;
 use reduction::reduce::{Aim, Reduced, reduce};
 use reduction::store::Environment;
 
-// Reduces the term that stands from `at` to `end` towards the aim, with `count` steps taken before.
+// Reduces the term that stands from `at` to `end` towards the aim, with `count` steps taken before. It and those that call it take the heap and the
+// stack alone, and not the machine: so its frames and its context stay as they are with no clause that says so.
 pub fn reduce_halved(
     env: Environment,
     heap: &mut [u32],

@@ -17,6 +17,7 @@ pub mod Looking
 pub mod Turning
 pub mod Popping
 pub mod Looping
+pub mod Turns
 pub mod Reading
 pub mod Firing
 pub mod Storing

@@ -1,7 +1,8 @@
 -- The state of the loop that finds the step after each of its turns, and that its measure falls.
-use Rattle.std.proofs.Common.{◌≡◌, ℕ, ◌+◌, ◌-◌, ◌<◌, ◌≤◌, List, [], ◌++◌, length, drop, Some, None, Option as Maybe, sym, ap, subst as tr, arith, length-drop}
+use Rattle.std.proofs.Common.{◌≡◌, ℕ, ◌+◌, ◌-◌, ◌<◌, ◌≤◌, Bool, true, false, is_some, refl, ◌∙◌, List, [], ◌++◌, length, drop, Some, None, Option as Maybe, sym, ap, subst as tr, arith, length-drop}
 use Rattle.std.proofs.lemmas.List.{drop-drop, drop_all}
 use Rattle.theory.specs.Terms.{Term}
+use Rattle.theory.proofs.Options.{true-false, false-true}
 use Rattle.theory.specs.Environment.{Env}
 use Rattle.terms.specs.Words.{put}
 use Rattle.reduction.specs.Store.{EnvAt}
@@ -67,3 +68,12 @@ ends index store heap at place before hit stack free s f b e front rest t v p q 
     go : (h : Maybe ℕ) → Pass e heap front rest t place before h [] → FindsStep e heap front t rest h
     go None x = end_none e heap front rest t place before b x
     go (Some c) x = end_found e heap front rest t place before c x
+
+-- There is a find, or there is none.
+pub is_closed : (o : Maybe ℕ) (r : Bool) → r ≡ is_some o → r ≡ true → (c : ℕ) × (o ≡ Some c)
+is_closed None r p q = false-true (sym p ∙ q)
+is_closed (Some c) r p q = (c, refl)
+
+pub is_open : (o : Maybe ℕ) (r : Bool) → r ≡ is_some o → r ≡ false → o ≡ None
+is_open None r p q = refl
+is_open (Some c) r p q = true-false (sym p ∙ q)

@@ -9,7 +9,8 @@ use Rattle.theory.proofs.WeakHead.{needs_arg}
 use Rattle.terms.specs.Words.{put}
 use Rattle.reduction.specs.Spines.{uses, top_step, strip, CalmTo}
 use Rattle.reduction.specs.Stepping.{RedexAt, frame}
-use Rattle.reduction.proofs.Putting.{behind, length-put}
+use Rattle.terms.proofs.Nodes.{put-length}
+use Rattle.reduction.proofs.Putting.{behind}
 use Rattle.reduction.proofs.Finding.{Item, plain, last, orelse, words, within, ans, node, expand_pi, expand_lam, expand_need}
 use Rattle.reduction.proofs.Spreading.{twos, length_twos, others, unwind, unwind_words, hit_below}
 
@@ -36,8 +37,8 @@ nodes_to_come (orelse o ∷ is) = nodes_to_come is
 
 pub words_long : (is : List Item) (r : List ℕ) → length (words is r) ≡ 3 * nodes_to_come is + length r
 words_long [] r = omega arith
-words_long (plain t ∷ is) r = omega (arith, words_long is r, length-put t (words is r))
-words_long (last q f a ∷ is) r = omega (arith, words_long is r, length-put a (words is r))
+words_long (plain t ∷ is) r = omega (arith, words_long is r, put-length t (words is r))
+words_long (last q f a ∷ is) r = omega (arith, words_long is r, put-length a (words is r))
 words_long (orelse o ∷ is) r = words_long is r
 
 -- The state of the pass over t, which stands between the words pre₀ and r: at a place, so many terms before the next frame.
@@ -92,7 +93,7 @@ passed : (ws pre : List ℕ) (s : Term) (x : List ℕ) → ws ≡ pre ++ put s x
 passed ws pre s x p = p ∙ behind pre s x
 
 length_passed : (pre : List ℕ) (s : Term) (place : ℕ) → length pre ≡ place → length (pre ++ put s []) ≡ place + 3 * size s
-length_passed pre s place p = omega (arith, length-append pre (put s []), length-put s [])
+length_passed pre s place p = omega (arith, length-append pre (put s []), put-length s [])
 
 -- A term without a step is passed by; and any term once something was found.
 pub by_normal : (e : Env) (ws pre₀ r : List ℕ) (t : Term) (place n : ℕ) (frames : List ℕ) (x : Next e ws pre₀ r t place n None frames) → normal_step e x.term ≡ none

@@ -1,5 +1,5 @@
 -- The turns of the loop that finds the step at which a frame comes off the stack.
-use Rattle.std.proofs.Common.{◌≡◌, ℕ, suc, ◌+◌, ◌<◌, ◌≤◌, Bool, true, false, ◌⊎◌, List, length, drop, Some, None, Option as Maybe, sym, ap, ◌∙◌, subst as tr, inl, inr, arith}
+use Rattle.std.proofs.Common.{◌≡◌, ℕ, suc, ◌+◌, ◌<◌, ◌≤◌, Bool, true, false, ◌⊎◌, List, length, drop, Some, None, Option as Maybe, refl, sym, ap, ◌∙◌, subst as tr, inl, inr, arith}
 use Rattle.std.proofs.lemmas.List.{drop_at}
 use Rattle.theory.specs.Terms.{Term, app}
 use Rattle.theory.specs.Environment.{Env}
@@ -7,12 +7,14 @@ use Rattle.theory.proofs.WeakHead.{needs_arg}
 use Rattle.terms.specs.Words.{put, At, Holds}
 use Rattle.reduction.specs.Store.{EnvAt}
 use Rattle.reduction.specs.Spines.{Fires}
-use Rattle.reduction.specs.Stepping.{frame, IsFrame, Findable}
+use Rattle.reduction.specs.Stepping.{frame, mark_of, IsFrame, Findable}
+use Rattle.std.specs.Option.{option_or}
+use Rattle.reduction.specs.declared.find.Kind.TheVariants.{Find}
 use Rattle.reduction.specs.declared.find.Frame.{Frame}
 use Rattle.reduction.proofs.Finding.{words}
 use Rattle.reduction.proofs.Passing.{Pass}
 use Rattle.reduction.proofs.Resuming.{LastNext, OrNext, frame_next, fires, stays, keeps, again_none, again_some}
-use Rattle.reduction.proofs.Turning.{Passes, weight}
+use Rattle.reduction.proofs.Turning.{Passes, weight, open_hit}
 
 -- What was read is the frame that stands there.
 abbrev pub Reads : List ℕ → Frame → Type 0
@@ -26,42 +28,52 @@ arg_at : (e : Env) (ws pre₀ r : List ℕ) (t : Term) (place : ℕ) (hit : Mayb
 arg_at e ws pre₀ r t place hit fs x = record { stands = ap (drop place) x.reads ∙ drop_at x.pre (put x.arg (words x.items r)) place x.placed }
 
 -- By the mark that was read.
-by_last : {D : Type 0} (e : Env) (ws pre₀ r : List ℕ) (t : Term) (place before : ℕ) (hit : Maybe ℕ) (fs : List ℕ) (f : Frame) → before ≡ 0 → 0 < length fs → Reads fs f → (f.mark ≡ 0 → ⊥) → Pass e ws pre₀ r t place before hit fs
+by_last : {D : Type 0} (e : Env) (ws pre₀ r : List ℕ) (t : Term) (place before : ℕ) (hit : Maybe ℕ) (fs : List ℕ) (f : Frame) → before ≡ 0 → 0 < length fs → Reads fs f → (f.kind ≡ Find → ⊥) → Pass e ws pre₀ r t place before hit fs
     → ((x : LastNext e ws pre₀ r t place hit fs) → IsFrame f 1 x.c x.n → D) → D
 by_last {D} e ws pre₀ r t place before hit fs f b l rd m p k = go (frame_next e ws pre₀ r t place before hit fs b l p)
   where
     go : LastNext e ws pre₀ r t place hit fs ⊎ OrNext e ws pre₀ r t place hit fs → D
     go (inl x) = k x (rd 1 x.c x.n x.gs x.is)
-    go (inr x) = absurd (m (rd 0 x.c x.n x.gs x.is).mark)
+    go (inr x) = absurd (m (rd 0 x.c x.n x.gs x.is).kind)
 
-by_or : {D : Type 0} (e : Env) (ws pre₀ r : List ℕ) (t : Term) (place before : ℕ) (hit : Maybe ℕ) (fs : List ℕ) (f : Frame) → before ≡ 0 → 0 < length fs → Reads fs f → f.mark ≡ 0 → Pass e ws pre₀ r t place before hit fs
+by_or : {D : Type 0} (e : Env) (ws pre₀ r : List ℕ) (t : Term) (place before : ℕ) (hit : Maybe ℕ) (fs : List ℕ) (f : Frame) → before ≡ 0 → 0 < length fs → Reads fs f → f.kind ≡ Find → Pass e ws pre₀ r t place before hit fs
     → ((x : OrNext e ws pre₀ r t place hit fs) → IsFrame f 0 x.c x.n → D) → D
 by_or {D} e ws pre₀ r t place before hit fs f b l rd m p k = go (frame_next e ws pre₀ r t place before hit fs b l p)
   where
     go : LastNext e ws pre₀ r t place hit fs ⊎ OrNext e ws pre₀ r t place hit fs → D
-    go (inl x) = absurd (let z = (rd 1 x.c x.n x.gs x.is).mark in omega arith)
+    go (inl x) = absurd (let z = ap mark_of (sym m ∙ (rd 1 x.c x.n x.gs x.is).kind) in omega arith)
     go (inr x) = k x (rd 0 x.c x.n x.gs x.is)
 
 -- An earlier find.
-pub or_none : (index store heap : List ℕ) (at place before : ℕ) (fs : List ℕ) (f : Frame) → before ≡ 0 → 0 < length fs → Reads fs f → f.mark ≡ 0 → Passes index store heap at place before None fs
+or_none : (index store heap : List ℕ) (at place before : ℕ) (fs : List ℕ) (f : Frame) → before ≡ 0 → 0 < length fs → Reads fs f → f.kind ≡ Find → Passes index store heap at place before None fs
     → Passes index store heap at place f.behind (Some f.place) (drop 6 fs)
 or_none index store heap at place before fs f b l rd m p e front r t v h q =
     by_or e heap front r t place before None fs f b l rd m (p e front r t v h q) λ x i.
     tr (λ z. Pass e heap front r t place f.behind (Some f.place) z) (sym (ap (drop 6) x.is))
     (tr (λ z. Pass e heap front r t place z (Some f.place) x.gs) (sym i.behind) (tr (λ z. Pass e heap front r t place x.n (Some z) x.gs) (sym i.place) (again_none e heap front r t place fs x)))
 
-pub or_some : (index store heap : List ℕ) (at place before c : ℕ) (fs : List ℕ) (f : Frame) → before ≡ 0 → 0 < length fs → Reads fs f → f.mark ≡ 0 → Passes index store heap at place before (Some c) fs
+or_some : (index store heap : List ℕ) (at place before c : ℕ) (fs : List ℕ) (f : Frame) → before ≡ 0 → 0 < length fs → Reads fs f → f.kind ≡ Find → Passes index store heap at place before (Some c) fs
     → Passes index store heap at place f.behind (Some c) (drop 6 fs)
 or_some index store heap at place before c fs f b l rd m p e front r t v h q =
     by_or e heap front r t place before (Some c) fs f b l rd m (p e front r t v h q) λ x i.
     tr (λ z. Pass e heap front r t place f.behind (Some c) z) (sym (ap (drop 6) x.is))
     (tr (λ z. Pass e heap front r t place z (Some c) x.gs) (sym i.behind) (again_some e heap front r t place c fs x))
 
+pub or_keeps : (index store heap : List ℕ) (at place before : ℕ) (hit : Maybe ℕ) (fs : List ℕ) (f : Frame) → before ≡ 0 → 0 < length fs → Reads fs f → f.kind ≡ Find → Passes index store heap at place before hit fs
+    → Passes index store heap at place f.behind (option_or hit (Some f.place)) (drop 6 fs)
+or_keeps index store heap at place before None fs f b l rd m p = or_none index store heap at place before fs f b l rd m p
+or_keeps index store heap at place before (Some c) fs f b l rd m p = or_some index store heap at place before c fs f b l rd m p
+
+-- Then there is a find.
+pub or_closed : (hit : Maybe ℕ) (c : ℕ) → open_hit (option_or hit (Some c)) ≡ 0
+or_closed None c = refl
+or_closed (Some x) c = refl
+
 -- A last argument: the whole fires, or it does not.
 abbrev pub Fired : (index store heap : List ℕ) (c place : ℕ) → Bool → Type 0
 Fired index store heap c place b = (e : Env) (f a : Term) (x y : List ℕ) → EnvAt index store e → At heap c (app f a) x → At heap place a y → needs_arg e f a ≡ true → Fires e f a b
 
-pub last_fires : (index store heap : List ℕ) (at place before : ℕ) (hit : Maybe ℕ) (fs : List ℕ) (f : Frame) → before ≡ 0 → 0 < length fs → Reads fs f → (f.mark ≡ 0 → ⊥) → Passes index store heap at place before hit fs
+pub last_fires : (index store heap : List ℕ) (at place before : ℕ) (hit : Maybe ℕ) (fs : List ℕ) (f : Frame) → before ≡ 0 → 0 < length fs → Reads fs f → (f.kind ≡ Find → ⊥) → Passes index store heap at place before hit fs
     → Fired index store heap f.place place true → Passes index store heap at place (f.behind + 1) (Some f.place) (drop 6 fs)
 last_fires index store heap at place before hit fs f b l rd m p k e front r t v h q =
     by_last e heap front r t place before hit fs f b l rd m (p e front r t v h q) λ x i.
@@ -70,7 +82,7 @@ last_fires index store heap at place before hit fs f b l rd m p k e front r t v 
     (tr (λ z. Pass e heap front r t place z (Some f.place) x.gs) (let z : suc x.n ≡ f.behind + 1 = omega (arith, i.behind) in z)
     (tr (λ z. Pass e heap front r t place (suc x.n) (Some z) x.gs) (sym i.place) (fires e heap front r t place hit fs x u is)))
 
-pub last_stays : (index store heap : List ℕ) (at place before : ℕ) (fs : List ℕ) (f : Frame) → before ≡ 0 → 0 < length fs → Reads fs f → (f.mark ≡ 0 → ⊥) → Passes index store heap at place before None fs
+pub last_stays : (index store heap : List ℕ) (at place before : ℕ) (fs : List ℕ) (f : Frame) → before ≡ 0 → 0 < length fs → Reads fs f → (f.kind ≡ Find → ⊥) → Passes index store heap at place before None fs
     → Fired index store heap f.place place false → Passes index store heap at place (f.behind + 1) None (drop 6 fs)
 last_stays index store heap at place before fs f b l rd m p k e front r t v h q =
     by_last e heap front r t place before None fs f b l rd m (p e front r t v h q) λ x i.
@@ -78,7 +90,7 @@ last_stays index store heap at place before fs f b l rd m p k e front r t v h q 
     tr (λ z. Pass e heap front r t place (f.behind + 1) None z) (sym (ap (drop 6) x.is))
     (tr (λ z. Pass e heap front r t place z None x.gs) (let z : suc x.n ≡ f.behind + 1 = omega (arith, i.behind) in z) (stays e heap front r t place fs x is))
 
-pub last_keeps : (index store heap : List ℕ) (at place before c : ℕ) (fs : List ℕ) (f : Frame) → before ≡ 0 → 0 < length fs → Reads fs f → (f.mark ≡ 0 → ⊥) → Passes index store heap at place before (Some c) fs
+pub last_keeps : (index store heap : List ℕ) (at place before c : ℕ) (fs : List ℕ) (f : Frame) → before ≡ 0 → 0 < length fs → Reads fs f → (f.kind ≡ Find → ⊥) → Passes index store heap at place before (Some c) fs
     → Fired index store heap f.place place false → Passes index store heap at place 1 None (frame 0 c f.behind (drop 6 fs))
 last_keeps index store heap at place before c fs f b l rd m p k e front r t v h q =
     by_last e heap front r t place before (Some c) fs f b l rd m (p e front r t v h q) λ x i.
@@ -90,9 +102,9 @@ last_keeps index store heap at place before c fs f b l rd m p k e front r t v h 
 pub record Popped (heap : List ℕ) (place : ℕ) (fs : List ℕ) (f : Frame) : Type 0 where
   pub long : 6 ≤ length fs
   pub light : weight (drop 6 fs) + 1 ≤ weight fs
-  pub heavy : (f.mark ≡ 0 → ⊥) → weight (drop 6 fs) + 3 ≤ weight fs
-  pub whole : (f.mark ≡ 0 → ⊥) → Holds heap f.place
-  pub arg : (f.mark ≡ 0 → ⊥) → Holds heap place
+  pub heavy : (f.kind ≡ Find → ⊥) → weight (drop 6 fs) + 3 ≤ weight fs
+  pub whole : (f.kind ≡ Find → ⊥) → Holds heap f.place
+  pub arg : (f.kind ≡ Find → ⊥) → Holds heap place
 
 pub popped : (index store heap : List ℕ) (at place before : ℕ) (hit : Maybe ℕ) (fs : List ℕ) (stack : ℕ) (f : Frame) → Findable index store heap at stack → before ≡ 0 → 0 < length fs → Reads fs f
     → Passes index store heap at place before hit fs → Popped heap place fs f
@@ -113,7 +125,7 @@ popped index store heap at place before hit fs stack f g b l rd p =
     go (inr x) =
         let i = rd 0 x.c x.n x.gs x.is in
         let w : weight fs ≡ 1 + weight (drop 6 fs) = ap weight x.is ∙ ap (λ z. 1 + weight (drop 6 z)) (sym x.is) in
-        record { long = omega (arith, ap length x.is); light = omega (arith, w); heavy = λ z. absurd (z i.mark); whole = λ z. absurd (z i.mark); arg = λ z. absurd (z i.mark) }
+        record { long = omega (arith, ap length x.is); light = omega (arith, w); heavy = λ z. absurd (z i.kind); whole = λ z. absurd (z i.kind); arg = λ z. absurd (z i.kind) }
 
 pub frame_long : (index store heap : List ℕ) (at place before : ℕ) (hit : Maybe ℕ) (fs : List ℕ) (stack : ℕ) → Findable index store heap at stack → before ≡ 0 → 0 < length fs → Passes index store heap at place before hit fs → 6 ≤ length fs
 frame_long index store heap at place before hit fs stack g b l p =

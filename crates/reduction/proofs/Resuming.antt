@@ -8,7 +8,7 @@ use Rattle.theory.proofs.Options.{map-none, map-some}
 use Rattle.theory.proofs.WeakHead.{needs_arg}
 use Rattle.terms.specs.Words.{put}
 use Rattle.reduction.specs.Stepping.{RedexAt, FindsStep, frame}
-use Rattle.reduction.proofs.Putting.{length-put}
+use Rattle.terms.proofs.Nodes.{put-length}
 use Rattle.reduction.proofs.Finding.{Item, plain, last, orelse, words, within, ans}
 use Rattle.reduction.proofs.Passing.{Waiting, Candidate, nodes_to_come, words_long, Pass}
 
@@ -211,7 +211,7 @@ end_none e ws pre₀ r t place before b p = map-none (λ u. pre₀ ++ put u r) (
 -- There are no more terms before a frame than words to come.
 pub few : (e : Env) (ws r : List ℕ) (m : ℕ) (fs : List ℕ) (is : List Item) → Waiting e ws r m fs is → 3 * m + length r ≤ length (words is r)
 few e ws r m fs [] w = omega (arith, w.0)
-few e ws r m fs (plain t ∷ is) w = omega (arith, w.1, few e ws r w.0 fs is w.2, length-put t (words is r), size_some t)
+few e ws r m fs (plain t ∷ is) w = omega (arith, w.1, few e ws r w.0 fs is w.2, put-length t (words is r), size_some t)
   where
     size_some : (t : Term) → 1 ≤ size t
     size_some (var x) = omega arith
@@ -220,5 +220,5 @@ few e ws r m fs (plain t ∷ is) w = omega (arith, w.1, few e ws r w.0 fs is w.2
     size_some (pi a b) = omega arith
     size_some (lam a b) = omega arith
     size_some (app f a) = omega arith
-few e ws r m fs (last q f a ∷ is) w = omega (arith, w.3, few e ws r w.0 w.2 is w.8, length-put a (words is r))
+few e ws r m fs (last q f a ∷ is) w = omega (arith, w.3, few e ws r w.0 w.2 is w.8, put-length a (words is r))
 few e ws r m fs (orelse o ∷ is) w = omega (arith, w.4, few e ws r w.0 w.2 is w.8)

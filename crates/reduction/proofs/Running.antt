@@ -1,5 +1,5 @@
 -- Reducing step by step in place: the state of the loop.
-use Rattle.std.proofs.Common.{◌≡◌, ℕ, suc, ◌+◌, ◌-◌, ◌*◌, ◌<◌, ◌≤◌, Bool, true, false, ◌⊎◌, List, [], ◌++◌, length, take, Some, Ok, Err, sym, refl, ap, ◌∙◌, subst as tr, inl, inr, arith}
+use Rattle.std.proofs.Common.{◌≡◌, ℕ, suc, ◌+◌, ◌-◌, ◌*◌, ◌<◌, ◌≤◌, Bool, true, false, ◌⊎◌, List, [], ◌++◌, length, take, drop, Some, Ok, Err, sym, refl, ap, ◌∙◌, subst as tr, inl, inr, arith}
 use mathlib.Core.Option.{some, none}
 use Rattle.theory.specs.Terms.{Term, size}
 use Rattle.theory.specs.Environment.{DataType, Env, data_at}
@@ -18,7 +18,7 @@ use Rattle.reduction.specs.declared.reduce.Reduced.TheVariants.{Reached}
 use Rattle.reduction.specs.declared.reduce.ReduceError.TheVariants.{UsedUp, NoRoom, NotYet}
 use Rattle.reduction.specs.declared.step.StepError.{StepError}
 use Rattle.reduction.specs.declared.step.StepError.TheVariants as stepping
-use Rattle.reduction.proofs.Standing.{stands_in}
+use Rattle.reduction.proofs.Standing.{stands_in, stands_here, stands_front}
 use Rattle.reduction.proofs.Staying.{stays_on}
 
 -- So far t has come to a term, which stands in the heap now.
@@ -71,13 +71,13 @@ ready_on index store heap heap' at stop next r f =
       few = r.few;
     }
 
-pub run_on : (index store first : List ℕ) (at end scratch₀ stack₀ : ℕ) (aim : Aim) (count most : ℕ) (heap heap' : List ℕ) (stop next scratch stack scratch' stack' steps : ℕ)
+pub run_on : {index store first : List ℕ} {at end scratch₀ stack₀ : ℕ} {aim : Aim} {count most : ℕ} {heap heap' : List ℕ} {stop next scratch stack scratch' stack' steps : ℕ}
     → Running index store first at end scratch₀ stack₀ aim count most heap stop scratch stack steps → steps < most
     → ((e : Env) (t : Term) → EnvAt index store e → Stands heap at t stop → Met e aim t false)
     → ((e : Env) (t : Term) → EnvAt index store e → Stands heap at t stop → (u : Term) × (normal_step e t ≡ some u) × Appends heap at (put u []) heap' next)
     → length heap' ≡ length heap → scratch' ≡ scratch → stack' ≡ stack
     → Running index store first at end scratch₀ stack₀ aim count most heap' next scratch' stack' (steps + 1)
-run_on index store first at end scratch₀ stack₀ aim count most heap heap' stop next scratch stack scratch' stack' steps r l m f h x y =
+run_on {index} {store} {first} {at} {end} {scratch₀} {stack₀} {aim} {count} {most} {heap} {heap'} {stop} {next} {scratch} {stack} {scratch'} {stack'} {steps} r l m f h x y =
     record {
       kept = front_kept ∙ r.kept;
       same = h ∙ r.same;
@@ -109,6 +109,11 @@ normal_kept index store heap heap' at stop r f =
 pub shorter : (e : Env) (t : Term) (k l : ℕ) → k ≡ l → (k < 3 * size t) ⊎ ((u : Term) × (normal_step e t ≡ some u) × (k < size u)) → (l < 3 * size t) ⊎ ((u : Term) × (normal_step e t ≡ some u) × (l < size u))
 shorter e t k l p x = tr (λ (n : ℕ). (n < 3 * size t) ⊎ ((u : Term) × (normal_step e t ≡ some u) × (n < size u))) p x
 
+-- The test for the aim's form, of the term that stands there.
+pub met_stands : {index store : List ℕ} (heap : List ℕ) (at stop : ℕ) (aim : Aim) (b : Bool)
+    → ((e : Env) (front rest : List ℕ) (t : Term) → EnvAt index store e → heap ≡ front ++ put t rest → length front ≡ at → Met e aim t b) → (e : Env) (t : Term) → EnvAt index store e → Stands heap at t stop → Met e aim t b
+met_stands heap at stop aim b f e t v s = f e (take at heap) (drop stop heap) t v (stands_here heap at t stop s) (stands_front heap at t stop s)
+
 -- What was found out about one step more.
 pub more_steps : (e : Env) (k : ℕ) (t : Term) (b : Bool) → b ≡ true → HasStep e k t (Some b) → (u : Term) × (normal_step e t ≡ some u)
 more_steps e k t b p x = tr (λ (z : Bool). HasStep e k t (Some z)) p x
@@ -117,7 +122,7 @@ pub no_steps : (e : Env) (k : ℕ) (t : Term) (b : Bool) → b ≡ false → Has
 no_steps e k t b p x = tr (λ (z : Bool). HasStep e k t (Some z)) p x
 
 -- The answers.
-module _ (index store first : List ℕ) (at end scratch₀ stack₀ : ℕ) (aim : Aim) (count most : ℕ) (heap : List ℕ) (stop scratch stack steps : ℕ)
+module _ {index store first : List ℕ} {at end scratch₀ stack₀ : ℕ} {aim : Aim} {count most : ℕ} {heap : List ℕ} {stop scratch stack steps : ℕ}
     (r : Running index store first at end scratch₀ stack₀ aim count most heap stop scratch stack steps) where
   written : (t : Term) → Stands heap at t stop → Appends first at (put t []) heap stop
   written t s = record { ends = omega (arith, s.ends, put-length t []); words = s.words ∙ ap (λ (z : List ℕ). z ++ put t []) r.kept }

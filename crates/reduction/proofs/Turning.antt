@@ -5,12 +5,12 @@ use Rattle.theory.specs.Terms.{Term, size}
 use Rattle.theory.specs.Environment.{Env}
 use Rattle.terms.specs.Words.{put, At, Holds}
 use Rattle.terms.proofs.Nodes.{size-parts}
-use Rattle.reduction.specs.Store.{EnvAt, Stored}
+use Rattle.reduction.specs.Store.{EnvAt}
 use Rattle.reduction.specs.Spines.{Looks}
 use Rattle.reduction.specs.Stepping.{frame, Findable}
 use Rattle.reduction.specs.declared.spine.Look.{Look}
 use Rattle.reduction.specs.declared.spine.Look.TheVariants.{Leaf, Pair, Redex, Spread, Needs}
-use Rattle.reduction.proofs.Putting.{length-put}
+use Rattle.terms.proofs.Nodes.{put-length}
 use Rattle.reduction.proofs.Finding.{words}
 use Rattle.reduction.proofs.Passing.{Pass, Next, start, next, by_normal, by_found, in_pi, in_lam, hit_at, spread, need}
 use Rattle.reduction.proofs.Resuming.{few}
@@ -56,7 +56,7 @@ next_at e ws pre₀ r t place n hit fs x = record { stands = ap (drop place) x.r
 pub bound : (e : Env) (ws pre₀ r : List ℕ) (t : Term) (at place before : ℕ) (hit : Maybe ℕ) (fs : List ℕ) → ws ≡ pre₀ ++ put t r → length pre₀ ≡ at → Pass e ws pre₀ r t place before hit fs
     → place + 3 * before ≤ at + 3 * size t
 bound e ws pre₀ r t at place before hit fs p q x =
-    omega (arith, few e ws r before fs x.items x.waits, ap length x.reads, length-append x.pre (words x.items r), x.placed, ap length p, length-append pre₀ (put t r), length-put t r)
+    omega (arith, few e ws r before fs x.items x.waits, ap length x.reads, length-append x.pre (words x.items r), x.placed, ap length p, length-append pre₀ (put t r), put-length t r)
 
 pub record Bound (heap : List ℕ) (at place before stack : ℕ) : Type 0 where
   pub nodes : ℕ
@@ -69,12 +69,9 @@ bounds index store heap at place before hit frames stack g p =
     record {
       nodes = size g.term;
       inside = bound g.env heap g.front g.rest g.term at place before hit frames g.here g.placed (p g.env g.front g.rest g.term g.env_at g.here g.placed);
-      heaped = omega (arith, ap length g.here, length-append g.front (put g.term g.rest), length-put g.term g.rest, g.placed);
+      heaped = omega (arith, ap length g.here, length-append g.front (put g.term g.rest), put-length g.term g.rest, g.placed);
       stacked = g.room;
     }
-
-pub stored : (index store heap : List ℕ) (at stack : ℕ) → Findable index store heap at stack → Stored index store
-stored index store heap at stack g = record { env = g.env; at = g.env_at }
 
 pub holds_next : (index store heap : List ℕ) (at place before : ℕ) (hit : Maybe ℕ) (frames : List ℕ) (stack : ℕ) → Findable index store heap at stack → Passes index store heap at place before hit frames → 0 < before → Holds heap place
 holds_next index store heap at place before hit frames stack g p l =

@@ -1,5 +1,5 @@
 -- What one normal-order step in place promises.
-use Rattle.std.specs.Prelude.{◌≡◌, ℕ, ◌+◌, ◌*◌, ◌^◌, ◌<◌, ◌≤◌, Bool, true, false, ◌⊎◌, List, [], ◌++◌, length, take, drop, Some, None, Option as Maybe, Ok, Err, Result}
+use Rattle.std.specs.Prelude.{◌≡◌, ℕ, ◌+◌, ◌*◌, ◌^◌, ◌<◌, ◌≤◌, Bool, true, false, cond, ◌==◌, ◌⊎◌, List, [], ◌++◌, length, take, drop, Some, None, Option as Maybe, Ok, Err, Result}
 use Rattle.std.proofs.Math.Option.{some, none}
 use Rattle.std.proofs.Math.ListN.{get_elem?}
 use Rattle.theory.specs.Terms.{h_def, h_along, Term, lam, app, size}
@@ -10,6 +10,8 @@ use Rattle.terms.specs.Words.{put, puts, number, At, Small}
 use Rattle.terms.specs.Writing.{Appends}
 use Rattle.reduction.specs.Store.{EnvAt}
 use Rattle.reduction.specs.Spines.{top_step, head_term, head_of}
+use Rattle.reduction.specs.declared.find.Kind.{Kind}
+use Rattle.reduction.specs.declared.find.Kind.TheVariants.{Find, Last}
 use Rattle.reduction.specs.declared.find.Frame.{Frame}
 use Rattle.terms.specs.declared.copy.WriteError.{WriteError}
 use Rattle.terms.specs.declared.copy.WriteError.TheVariants as writing
@@ -73,8 +75,15 @@ abbrev pub FindsStep : Env → List ℕ → List ℕ → Term → List ℕ → M
 FindsStep e ws pre t rest None = normal_step e t ≡ none
 FindsStep e ws pre t rest (Some c) = (u : Term) × (normal_step e t ≡ some u) × RedexAt e ws rest c (pre ++ put u rest)
 
--- A frame of the pass that finds the step: is it a last argument (1) or an earlier find (0), its place, and behind how many terms the next
--- frame comes.
+-- The number for what a frame remembers, and what a number says.
+abbrev pub mark_of : Kind → ℕ
+mark_of Find = 0
+mark_of Last = 1
+
+abbrev pub kind_of : ℕ → Kind
+kind_of m = cond (m == 0) Find Last
+
+-- A frame of the pass that finds the step: the number for what it remembers, its place, and behind how many terms the next frame comes.
 abbrev pub frame : ℕ → ℕ → ℕ → List ℕ → List ℕ
 frame m c n fs = number m (number c (number n fs))
 
@@ -83,7 +92,7 @@ pub record FramePushed (before : List ℕ) (free m c n : ℕ) (after : List ℕ)
   pub words : drop top after ≡ frame m c n (drop free before)
 
 pub record IsFrame (f : Frame) (m c n : ℕ) : Type 0 where
-  pub mark : f.mark ≡ m
+  pub kind : f.kind ≡ kind_of m
   pub place : f.place ≡ c
   pub behind : f.behind ≡ n
 

@@ -68,6 +68,7 @@ pub fn declare_axiom(
     Some(end)
 }
 
+// The table and the store stay two slices with how much of each is used: a struct of them would be built at each call, for that call alone.
 // The entry whose words behind the first three stand in the store.
 fn enter(index: &mut [u32], count: usize, store: &mut [u32], used: usize, mark: u32, value: usize)
     requires table { 2 * (count + 1) ≤ length index.old }

@@ -4,30 +4,55 @@ ghost use Rattle.theory.specs.Terms.{Term};
 ghost use Rattle.theory.specs.Environment.{Env};
 ghost use Rattle.terms.specs.Words.{put};
 ghost use Rattle.reduction.specs.Store.{EnvAt};
-ghost use Rattle.reduction.specs.Stepping.{frame, FramePushed, IsFrame, Findable, FindsStep};
+ghost use Rattle.reduction.specs.Stepping.{frame, mark_of, kind_of, FramePushed, IsFrame, Findable, FindsStep};
 
 use crate::spine::{Look, fires, look_at};
 use crate::store::Environment;
 use terms::number::{number_at, push_number};
 use terms::walk::end_of;
 
-// A frame: a last argument that is still to come (1), or an earlier find (0); its place; behind how many terms the next frame comes.
-#[derive(Clone, Copy)]
+// What a frame remembers: an earlier find, or an application whose last argument is still to come.
+#[derive(Clone, Copy, Debug, PartialEq, Eq)]
+pub enum Kind {
+    Find,
+    Last,
+}
+
+impl Kind {
+    // The number for it on the stack.
+    fn mark(self) -> usize
+        ensures { result ≡ mark_of self }
+    {
+        match self {
+            Kind::Find => 0,
+            Kind::Last => 1,
+        }
+    }
+
+    fn of_mark(mark: usize) -> Kind
+        ensures { result ≡ kind_of mark }
+    {
+        if mark == 0 { Kind::Find } else { Kind::Last }
+    }
+}
+
+// A frame: what it remembers; its place; behind how many terms the next frame comes.
+#[derive(Clone, Copy, Debug, PartialEq, Eq)]
 pub struct Frame {
-    pub mark: usize,
+    pub kind: Kind,
     pub place: usize,
     pub behind: usize,
 }
 
 // A frame on top of the stack, which grows down.
-fn push_frame(stack: &mut [u32], free: usize, mark: usize, place: usize, behind: usize) -> usize
+fn push_frame(stack: &mut [u32], free: usize, frame: Frame) -> usize
     requires low { 6 ≤ free }
     requires within { free ≤ length stack.old }
-    ensures { FramePushed stack.old free mark place behind stack.new result }
+    ensures { FramePushed stack.old free (mark_of frame.kind) frame.place frame.behind stack.new result }
 {
-    let third = push_number(stack, free, behind);
-    let second = push_number(stack, third, place);
-    push_number(stack, second, mark)
+    let third = push_number(stack, free, frame.behind);
+    let second = push_number(stack, third, frame.place);
+    push_number(stack, second, frame.kind.mark())
 }
 
 // The frame on top of the stack.
@@ -36,7 +61,7 @@ fn frame_at(stack: &[u32], free: usize) -> Frame
     ensures { (m c n : ℕ) (fs : List ℕ) → drop free stack.now ≡ frame m c n fs → IsFrame result m c n }
 {
     Frame {
-        mark: number_at(stack, free),
+        kind: Kind::of_mark(number_at(stack, free)),
         place: number_at(stack, free + 2),
         behind: number_at(stack, free + 4),
     }
@@ -52,18 +77,17 @@ pub fn find(env: Environment, heap: &[u32], at: usize, stack: &mut [u32]) -> Opt
     let mut before: usize = 1;
     let mut hit: Option<usize> = None;
     let mut free = stack.len();
+    // One loop, longer than a function should be: a part of it would take the whole invariant for its contract.
     'pass: loop {
         if before == 0 {
             if free == stack.len() {
                 return hit;
             }
             let frame = frame_at(stack, free);
-            if frame.mark == 0 {
+            if let Kind::Find = frame.kind {
                 before = frame.behind;
                 free += 6;
-                if let None = hit {
-                    hit = Some(frame.place);
-                }
+                hit = hit.or(Some(frame.place));
                 continue 'pass;
             }
             if fires(env, heap, frame.place, place) {
@@ -74,7 +98,12 @@ pub fn find(env: Environment, heap: &[u32], at: usize, stack: &mut [u32]) -> Opt
             }
             if let Some(c) = hit {
                 before = 1;
-                free = push_frame(stack, free + 6, 0, c, frame.behind);
+                let found = Frame {
+                    kind: Kind::Find,
+                    place: c,
+                    behind: frame.behind,
+                };
+                free = push_frame(stack, free + 6, found);
                 hit = None;
                 continue 'pass;
             }
@@ -82,7 +111,7 @@ pub fn find(env: Environment, heap: &[u32], at: usize, stack: &mut [u32]) -> Opt
             free += 6;
             continue 'pass;
         }
-        if let Some(_) = hit {
+        if hit.is_some() {
             if free == stack.len() {
                 return hit;
             }
@@ -111,7 +140,12 @@ pub fn find(env: Environment, heap: &[u32], at: usize, stack: &mut [u32]) -> Opt
                 continue 'pass;
             }
             Look::Needs(n, m) => {
-                free = push_frame(stack, free, 1, place + 3 * (n - m), before - 1 + (n - m));
+                let last = Frame {
+                    kind: Kind::Last,
+                    place: place + 3 * (n - m),
+                    behind: before - 1 + (n - m),
+                };
+                free = push_frame(stack, free, last);
                 place += 3 * n;
                 before = m;
                 continue 'pass;

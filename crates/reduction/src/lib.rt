@@ -1,4 +1,5 @@
 // Reduction of terms in words: the environment's store, the normal-order step in place, reducing towards an aim.
+// The memory is fixed and lent by the caller: heap, scratch words and stack are slices.
 
 #![tactic(auto)]
 

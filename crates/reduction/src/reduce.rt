@@ -13,6 +13,7 @@ use crate::store::Environment;
 use terms::sign::{Sign, sign_at};
 
 // Until the term is normal; is the first function type, the first sort; until the domain of the first function type is normal.
+// An enum and no closure, since callers' contracts and the specs name the aims.
 #[derive(Clone, Copy, Debug, PartialEq, Eq)]
 pub enum Aim {
     ToNormal,

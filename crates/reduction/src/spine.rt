@@ -12,7 +12,7 @@ use terms::sign::{Sign, sign_at};
 
 // What the pass that finds the step does with a term: it has no parts and no step; its two parts come; a redex stands in it at this place; its
 // head and so many arguments come; of so many arguments its head has to look at this one.
-#[derive(Clone, Copy)]
+#[derive(Clone, Copy, Debug, PartialEq, Eq)]
 pub enum Look {
     Leaf,
     Pair,
@@ -89,10 +89,7 @@ fn refl_fits(words: &[u32], at: usize) -> bool
     ensures { (a : Term) (rest : List ℕ) → At words.now at a rest → result ≡ refl_fits_lem (head_of (head_term a)) (uses a) }
 {
     let count = count_uses(words, at);
-    let Sign::Refl(_) = sign_at(words, at + 3 * count) else {
-        return false;
-    };
-    count == 2
+    matches!(sign_at(words, at + 3 * count), Sign::Refl(_)) && count == 2
 }
 
 // Is the application that stands at `at`, whose head looks at its last argument at `last`, a redex?
@@ -114,15 +111,9 @@ fn look_alone(env: Environment, sign: Sign, at: usize) -> Look
     ensures { (e : Env) (t : Term) → EnvAt env.entry.index.now env.entry.store.now e → sign ≡ root t → uses t ≡ 0 → Looks e at t result }
 {
     match sign {
-        Sign::Pi => Look::Pair,
-        Sign::Lam => Look::Pair,
-        _ => {
-            if unfolds(env, sign) {
-                Look::Redex(at)
-            } else {
-                Look::Leaf
-            }
-        }
+        Sign::Pi | Sign::Lam => Look::Pair,
+        _ if unfolds(env, sign) => Look::Redex(at),
+        _ => Look::Leaf,
     }
 }
 

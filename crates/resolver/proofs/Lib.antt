@@ -4,6 +4,7 @@ pub mod Plain
 pub mod Naming
 pub mod Shapes
 pub mod Stacked
+pub mod Bindings
 pub mod Walked
 pub mod Doing
 pub mod Entering

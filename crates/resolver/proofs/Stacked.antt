@@ -1,7 +1,17 @@
 -- Frames on a stack: pushed, passed over, taken up.
-use Rattle.std.proofs.Common.{◌≡◌, ℕ, ◌+◌, ◌-◌, ◌<◌, ◌≤◌, List, [], ◌∷◌, length, get_or, drop, set, sym, refl, ap, ◌∙◌, subst as tr, arith}
+use Rattle.std.proofs.Common.{◌≡◌, ℕ, suc, ◌+◌, ◌-◌, ◌*◌, ◌<◌, ◌≤◌, Bool, true, false, cond, not, eqb, ltb, List, [], ◌∷◌, ◌++◌, length, get_or, take, drop, set, Option, Some, None, Bor, sym, refl, ap, ap₂, ◌∙◌, subst as tr, arith}
 use Rattle.std.proofs.lemmas.List.{drop-drop, drop-set, drop-set-add, drop_more}
-use Rattle.resolver.specs.Frames.{Frame, waits, body, under, opened, entered, FramesAt, PushesTwo}
+use Rattle.std.specs.Slice.Iter.{chunks_exact_steps}
+use Rattle.std.specs.List.{position_or_len}
+use Rattle.std.specs.declared.slice.ChunksExact.{ChunksExact}
+use Rattle.std.proofs.lemmas.Bool.Decides.{nat_tests}
+use Rattle.std.proofs.lemmas.Iterator.{YieldsList}
+use Rattle.std.proofs.lemmas.Iterator.Splits.{YieldsList-from_shown_while}
+use denote.Enum.Declared.{tag_of}
+use Rattle.resolver.specs.contracts.walk.FrameKind.{the_type}
+use Rattle.resolver.specs.declared.walk.FrameKind.{FrameKind}
+use Rattle.resolver.specs.declared.walk.FrameKind.TheVariants.{Argument, Body, Bound}
+use Rattle.resolver.specs.Frames.{Frame, waits, body, under, put_frames, opened, entered, FramesAt, PushesTwo, kind_word}
 use Rattle.resolver.proofs.Naming.{read_first}
 
 pub pushed_two : (s : List ℕ) (free v w : ℕ) → 2 ≤ free → free ≤ length s → PushesTwo s free v w (set (set s (free - 2) v) (free - 1) w) (free - 2)
@@ -14,51 +24,110 @@ pushed_two s free v w h k = record {
       ∙ ap (λ (j : ℕ). v ∷ w ∷ drop j s) (let z : free - 2 + 1 + 1 ≡ free = omega arith in z);
 }
 
--- The frames from some place on: those before it are none that waits.
-pub record Skipped (stack : List ℕ) (place top : ℕ) (fs : List Frame) (base : List ℕ) : Type 0 where
-  pub frames : List Frame
-  pub at : FramesAt stack place top frames base
-  pub says : opened fs ≡ opened frames
+-- The word of a kind of frame is its place among the kinds.
+pub frame_tag : (k : FrameKind) → tag_of the_type k ≡ kind_word k
+frame_tag Argument = refl
+frame_tag Body = refl
+frame_tag Bound = refl
 
-abbrev pub SkippedAll : List ℕ → ℕ → ℕ → ℕ → Type 0
-SkippedAll stack free top place = (fs : List Frame) (base : List ℕ) → FramesAt stack free top fs base → Skipped stack place top fs base
-
-pub skip_start : (stack : List ℕ) (free top : ℕ) → SkippedAll stack free top free
-skip_start stack free top fs base a = record { frames = fs; at = a; says = refl }
+twice : (n : ℕ) → 2 * suc n ≡ suc (suc (2 * n))
+twice n = omega arith
 
 tail_two : (stack : List ℕ) (place v w : ℕ) (ws : List ℕ) → drop place stack ≡ v ∷ w ∷ ws → drop (place + 2) stack ≡ ws
 tail_two stack place v w ws e = sym (drop-drop 2 place stack) ∙ ap (drop 2) e
 
+-- The words two by two.
+abbrev pub pairs : List ℕ → List (List ℕ)
+pairs [] = []
+pairs (k ∷ []) = []
+pairs (k ∷ p ∷ ws) = (k ∷ p ∷ []) ∷ pairs ws
+
+pairs_none : (ws : List ℕ) → length ws < 2 → length (pairs ws) ≡ 0
+pairs_none [] h = refl
+pairs_none (k ∷ []) h = refl
+pairs_none (k ∷ p ∷ ws) h = absurd (let z : ⊥ = omega arith in z)
+
+pairs_more : (f ws : List ℕ) → length f ≡ 2 → pairs (f ++ ws) ≡ f ∷ pairs ws
+pairs_more [] ws l = absurd (let z : ⊥ = omega arith in z)
+pairs_more (k ∷ []) ws l = absurd (let z : ⊥ = omega arith in z)
+pairs_more (k ∷ p ∷ []) ws l = refl
+pairs_more (k ∷ p ∷ q ∷ r) ws l = absurd (let z : ⊥ = omega arith in z)
+
+-- What an iterator over them gives.
+pub pairs_yield : (s : ChunksExact ℕ) → s.size ≡ 2 → YieldsList chunks_exact_steps (λ x. x.now) s (pairs s.rest.now)
+pairs_yield s e = YieldsList-from_shown_while chunks_exact_steps (λ x. x.now) (λ (t : ChunksExact ℕ). pairs t.rest.now) (λ (t : ChunksExact ℕ). t.size ≡ 2) none some s e
+  where
+    none : (s t : ChunksExact ℕ) → s.size ≡ 2 → chunks_exact_steps s None t → length (pairs s.rest.now) ≡ 0
+    none s t e h = pairs_none s.rest.now (omega (arith, h.1.0, e))
+
+    some : (s : ChunksExact ℕ) (x : Bor (List ℕ)) (t : ChunksExact ℕ) → s.size ≡ 2 → chunks_exact_steps s (Some x) t → (t.size ≡ 2) × (pairs s.rest.now ≡ x.now ∷ pairs t.rest.now)
+    some s x t e h = (h.0 ∙ e, ap pairs h.1.0 ∙ pairs_more x.now t.rest.now (h.1.1 ∙ e))
+
+-- Is it a frame that waits?
+abbrev pub waiting : List ℕ → Bool
+waiting f = not (eqb (get_or f 0 0) 2)
+
+-- The frames before the first that waits.
+abbrev bound_count : List Frame → ℕ
+bound_count [] = 0
+bound_count (waits p a ∷ fs) = 0
+bound_count (body p x b ∷ fs) = 0
+bound_count (under p x ∷ fs) = 1 + bound_count fs
+
+own_words : (fs : List Frame) (r : List ℕ) → take (2 * length fs) (put_frames fs r) ≡ put_frames fs []
+own_words [] r = refl
+own_words (waits p a ∷ fs) r = ap (λ (k : ℕ). take k (put_frames (waits p a ∷ fs) r)) (twice (length fs)) ∙ ap (λ (z : List ℕ). 0 ∷ p ∷ z) (own_words fs r)
+own_words (body p x b ∷ fs) r = ap (λ (k : ℕ). take k (put_frames (body p x b ∷ fs) r)) (twice (length fs)) ∙ ap (λ (z : List ℕ). 1 ∷ p ∷ z) (own_words fs r)
+own_words (under p x ∷ fs) r = ap (λ (k : ℕ). take k (put_frames (under p x ∷ fs) r)) (twice (length fs)) ∙ ap (λ (z : List ℕ). 2 ∷ p ∷ z) (own_words fs r)
+
+count_pairs : (fs : List Frame) → length (pairs (put_frames fs [])) ≡ length fs
+count_pairs [] = refl
+count_pairs (waits p a ∷ fs) = ap suc (count_pairs fs)
+count_pairs (body p x b ∷ fs) = ap suc (count_pairs fs)
+count_pairs (under p x ∷ fs) = ap suc (count_pairs fs)
+
+first_waiting : (fs : List Frame) → position_or_len waiting (pairs (put_frames fs [])) ≡ bound_count fs
+first_waiting [] = refl
+first_waiting (waits p a ∷ fs) = refl
+first_waiting (body p x b ∷ fs) = refl
+first_waiting (under p x ∷ fs) = ap (λ (k : ℕ). 1 + k) (first_waiting fs)
+
+bound_few : (fs : List Frame) → bound_count fs ≤ length fs
+bound_few [] = omega arith
+bound_few (waits p a ∷ fs) = omega arith
+bound_few (body p x b ∷ fs) = omega arith
+bound_few (under p x ∷ fs) = omega (arith, bound_few fs)
+
+open_at : {stack : List ℕ} {top : ℕ} {base : List ℕ} (fs : List Frame) (free : ℕ) → FramesAt stack free top fs base → FramesAt stack (free + 2 * bound_count fs) top (opened fs) base
+open_at {stack} {top} {base} [] free a = tr (λ (k : ℕ). FramesAt stack k top [] base) (let z : free ≡ free + 2 * 0 = omega arith in z) a
+open_at {stack} {top} {base} (waits p b ∷ fs) free a = tr (λ (k : ℕ). FramesAt stack k top (waits p b ∷ fs) base) (let z : free ≡ free + 2 * 0 = omega arith in z) a
+open_at {stack} {top} {base} (body p x b ∷ fs) free a = tr (λ (k : ℕ). FramesAt stack k top (body p x b ∷ fs) base) (let z : free ≡ free + 2 * 0 = omega arith in z) a
+open_at {stack} {top} {base} (under p x ∷ fs) free a =
+    tr (λ (k : ℕ). FramesAt stack k top (opened fs) base) (let z : free + 2 + 2 * bound_count fs ≡ free + 2 * (1 + bound_count fs) = omega arith in z)
+    (open_at fs (free + 2) (record { words = tail_two stack free _ _ _ a.words; count = omega (arith, a.count) }))
+
+-- The first frame that waits, if one does.
+pub first_open : (stack : List ℕ) (free top : ℕ) (words : List ℕ) (fs : List Frame) (base : List ℕ) → words ≡ take (top - free) (drop free stack) → FramesAt stack free top fs base
+    → (found : Option ℕ) (place : ℕ) → found ≡ cond (ltb (position_or_len waiting (pairs words)) (length (pairs words))) (Some (position_or_len waiting (pairs words))) None
+    → (found ≡ None → place ≡ top) → ((n : ℕ) → found ≡ Some n → place ≡ free + 2 * n) → FramesAt stack place top (opened fs) base
+first_open stack free top words fs base e a found place f none some =
+    tr (λ (k : ℕ). FramesAt stack k top (opened fs) base) (sym (go (ltb (bound_count fs) (length fs)) refl)) (open_at fs free a)
+  where
+    own : words ≡ put_frames fs []
+    own = e ∙ ap (λ (k : ℕ). take k (drop free stack)) (let z : top - free ≡ 2 * length fs = omega (arith, a.count) in z) ∙ ap (take (2 * length fs)) a.words ∙ own_words fs base
+
+    says : found ≡ cond (ltb (bound_count fs) (length fs)) (Some (bound_count fs)) None
+    says =
+        f ∙ ap (λ (z : List ℕ). cond (ltb (position_or_len waiting (pairs z)) (length (pairs z))) (Some (position_or_len waiting (pairs z))) None) own
+        ∙ ap₂ (λ (m n : ℕ). cond (ltb m n) (Some m) None) (first_waiting fs) (count_pairs fs)
+
+    go : (b : Bool) → ltb (bound_count fs) (length fs) ≡ b → place ≡ free + 2 * bound_count fs
+    go true t = some _ (says ∙ ap (λ (b : Bool). cond b (Some (bound_count fs)) None) t)
+    go false t =
+        none (says ∙ ap (λ (b : Bool). cond b (Some (bound_count fs)) None) t)
+        ∙ (let h : length fs ≤ bound_count fs = grind (arith, nat_tests) in let z : top ≡ free + 2 * bound_count fs = omega (arith, a.count, bound_few fs) in z)
+
 module _ (stack : List ℕ) (place top : ℕ) where
-  pub frames_two : (fs : List Frame) {base : List ℕ} → FramesAt stack place top fs base → place < top → place + 2 ≤ top
-  frames_two [] a h = absurd (let z : ⊥ = omega (arith, a.count) in z)
-  frames_two (f ∷ fs) a h = omega (arith, a.count)
-
-  pub skip_on : {fs : List Frame} {base : List ℕ} → Skipped stack place top fs base → place < top → get_or stack place 0 ≡ 2 → Skipped stack (place + 2) top fs base
-  skip_on {fs} {base} s h t = go s.frames s.at s.says
-    where
-      go : (hs : List Frame) → FramesAt stack place top hs base → opened fs ≡ opened hs → Skipped stack (place + 2) top fs base
-      go [] a e = absurd (let z : ⊥ = omega (arith, a.count) in z)
-      go (waits p b ∷ hs) a e = absurd (let z : ⊥ = omega (arith, t, read_first stack place _ _ a.words) in z)
-      go (body p x b ∷ hs) a e = absurd (let z : ⊥ = omega (arith, t, read_first stack place _ _ a.words) in z)
-      go (under p x ∷ hs) a e = record { frames = hs; at = record { words = tail_two stack place _ _ _ a.words; count = omega (arith, a.count) }; says = e }
-
-  pub skip_stop : {fs : List Frame} {base : List ℕ} → Skipped stack place top fs base → place < top → (get_or stack place 0 ≡ 2 → ⊥) → FramesAt stack place top (opened fs) base
-  skip_stop {fs} {base} s h t = tr (λ (z : List Frame). FramesAt stack place top z base) (sym s.says) (go s.frames s.at)
-    where
-      go : (hs : List Frame) → FramesAt stack place top hs base → FramesAt stack place top (opened hs) base
-      go [] a = a
-      go (waits p b ∷ hs) a = a
-      go (body p x b ∷ hs) a = a
-      go (under p x ∷ hs) a = absurd (t (read_first stack place _ _ a.words))
-
-  pub skip_end : {fs : List Frame} {base : List ℕ} → Skipped stack place top fs base → top ≤ place → FramesAt stack place top (opened fs) base
-  skip_end {fs} {base} s h = tr (λ (z : List Frame). FramesAt stack place top z base) (sym s.says) (go s.frames s.at)
-    where
-      go : (hs : List Frame) → FramesAt stack place top hs base → FramesAt stack place top (opened hs) base
-      go [] a = a
-      go (f ∷ hs) a = absurd (let z : ⊥ = omega (arith, a.count) in z)
-
   -- The top frame taken up.
   pub enter_waits : (fs : List Frame) (base : List ℕ) → FramesAt stack place top fs base → place < top → get_or stack place 0 ≡ 0 → FramesAt stack (place + 2) top (entered fs) base
   enter_waits [] base a h t = absurd (let z : ⊥ = omega (arith, a.count) in z)

@@ -74,11 +74,11 @@ pub record AxiomWritten (tree : List ℕ) (gs : List Global) (d : Decl) (rest be
   pub written : DeclWritten tree gs d rest before start after (assumed type) end behind
 
 -- One of these: there is a body for a definition.
-abbrev pub EntryWritten : List ℕ → List Global → Decl → List ℕ → List ℕ → ℕ → List ℕ → Option ℕ → ℕ → ℕ → Type 0
-EntryWritten tree gs d rest before start after (Some body_at) end behind = DefWritten tree gs d rest before start after body_at end behind
-EntryWritten tree gs d rest before start after None end behind = AxiomWritten tree gs d rest before start after end behind
+abbrev pub FormWritten : List ℕ → List Global → Decl → List ℕ → List ℕ → ℕ → List ℕ → Option ℕ → ℕ → ℕ → Type 0
+FormWritten tree gs d rest before start after (Some body_at) end behind = DefWritten tree gs d rest before start after body_at end behind
+FormWritten tree gs d rest before start after None end behind = AxiomWritten tree gs d rest before start after end behind
 
 -- The answer: one of these, or d elaborates to no entry, and a name of it stands at that place.
 abbrev pub DeclResolves : List ℕ → List Global → Decl → List ℕ → List ℕ → ℕ → List ℕ → Result Declared Nowhere → Type 0
-DeclResolves tree gs d rest before start after (Ok r) = EntryWritten tree gs d rest before start after r.body r.end r.behind
+DeclResolves tree gs d rest before start after (Ok r) = FormWritten tree gs d rest before start after r.body r.end r.behind
 DeclResolves tree gs d rest before start after (Err n) = ((c : Entry) → ElabDecl gs d c → ⊥) × Named tree n.0

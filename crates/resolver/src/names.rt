@@ -1,6 +1,6 @@
 // Names looked up: among those that are bound, and among those that were declared.
 ghost use Rattle.std.specs.Prelude.{◌≡◌, List};
-ghost use Rattle.syntax.specs.Surface.{Name};
+ghost use Rattle.syntax.specs.Surface.{Name, same};
 ghost use Rattle.elaboration.specs.Elaboration.{Global};
 ghost use Rattle.resolver.specs.Names.{NameAt, Named, GlobalsAt, Tabled, ScopeAt, Scoped, global_sign, index_found};
 
@@ -17,6 +17,7 @@ pub struct Names<'a> {
 }
 
 // The name that stands there.
+#[tactic(auto, using(crate::proofs::Naming::named_within))]
 pub fn name_at(tree: &[u32], at: usize) -> &[u32]
     requires { Named tree.now at }
     ensures { (x : Name) → NameAt tree.now at x → result.now ≡ x }
@@ -26,22 +27,24 @@ pub fn name_at(tree: &[u32], at: usize) -> &[u32]
     &tree[start..end]
 }
 
+// Does this name stand there?
+fn is_name(tree: &[u32], at: usize, name: &[u32]) -> bool
+    requires { Named tree.now at }
+    ensures { (x : Name) → NameAt tree.now at x → result ≡ same x name.now }
+{
+    name_at(tree, at) == name
+}
+
 impl Names<'_> {
     // The de Bruijn index of a name that is bound.
     pub fn index_of(&self, name: &[u32]) -> Option<usize>
         requires { Scoped self.now.tree.now self.now.frames.now }
         ensures { (ys : List Name) → ScopeAt self.now.tree.now self.now.frames.now ys → result ≡ index_found ys name.now }
     {
-        let mut index = 0;
-        for frame in self.frames.chunks_exact(2) {
-            if frame[0] == FrameKind::Bound as u32 {
-                if name_at(self.tree, frame[1] as usize) == name {
-                    return Some(index);
-                }
-                index += 1;
-            }
-        }
-        None
+        self.frames
+            .chunks_exact(2)
+            .filter(|frame| frame[0] == FrameKind::Bound as u32)
+            .position(|frame| is_name(self.tree, frame[1] as usize, name))
     }
 
     // The node for the first global of that name.
@@ -50,7 +53,7 @@ impl Names<'_> {
         ensures { (gs : List Global) → GlobalsAt self.now.tree.now self.now.table.now gs → result ≡ global_sign gs name.now }
     {
         for row in self.table.chunks_exact(4) {
-            if name_at(self.tree, row[0] as usize) == name {
+            if is_name(self.tree, row[0] as usize, name) {
                 return Some(sign_at(row, 1));
             }
         }

@@ -55,14 +55,10 @@ fn next_open(stack: &[u32], free: usize, top: usize) -> usize
     requires { Framed stack.now free top }
     ensures { (fs : List Frame) (base : List ℕ) → FramesAt stack.now free top fs base → FramesAt stack.now result top (opened fs) base }
 {
-    let mut place = free;
-    while place < top {
-        if stack[place] != FrameKind::Bound as u32 {
-            return place;
-        }
-        place += 2;
-    }
-    place
+    stack[free..top]
+        .chunks_exact(2)
+        .position(|frame| frame[0] != FrameKind::Bound as u32)
+        .map_or(top, |n| free + 2 * n)
 }
 
 // The top frame, which waits, is taken up.

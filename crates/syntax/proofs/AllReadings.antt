@@ -1,5 +1,5 @@
 -- What the reader of all declarations does, one declaration at a time; and what the words and names of all declarations are.
-use Rattle.std.proofs.Common.{◌≡◌, ℕ, suc, ◌≤◌, max, true, List, [], ◌∷◌, ◌++◌, length, is_err, Ok, Err, Result, sym, refl, ap, ◌∙◌, arith}
+use Rattle.std.proofs.Common.{◌≡◌, ℕ, suc, ◌≤◌, max, true, false, List, [], ◌∷◌, ◌++◌, length, is_err, Ok, Err, Result, sym, refl, ap, ◌∙◌, arith}
 use mathlib.Core.Option.{Option, some, none, some-injective}
 use Rattle.std.proofs.lemmas.Bool.{false≢true}
 use Rattle.syntax.specs.Surface.{Name, Decl, d_def, d_axiom, d_data, stage, decl_stage, names_of, decl_names}
@@ -9,7 +9,11 @@ use Rattle.syntax.specs.Reader.{bind, read_decl, read_decls}
 use Rattle.syntax.specs.Parsing.{FindsNone}
 use Rattle.syntax.specs.Declaring.{read_all, decl_words, DeclaresAll}
 use Rattle.syntax.specs.declared.problem.Stop.{Stop}
-use Rattle.syntax.specs.declared.declarations.Whole.{Whole}
+use Rattle.syntax.specs.declared.write.Writer.{Writer}
+use Rattle.syntax.specs.declared.parse.Parsed.{Parsed}
+use Rattle.std.specs.Prelude.{None, Some, is_some, Option as Option₁}
+use Rattle.syntax.specs.declared.lexer.Cut.{Cut}
+use Rattle.syntax.specs.Lexing.{Cuts, lexeme}
 use Rattle.syntax.proofs.Gives.{then_is, no_some}
 use Rattle.syntax.proofs.TermReadings.{then_not}
 use Rattle.syntax.proofs.TreeWords.{expr_apart, name_apart}
@@ -46,9 +50,9 @@ all_none n ts e = go (read_decls n ts) e
     go none p = refl
     go (some es) p = no_some (sym p)
 
-pub all_fail : (bs after after₂ : List ℕ) (r : Result Whole Stop) → is_err r ≡ true → FindsNone read_decls (tokens bs) → DeclaresAll bs after after₂ r
-all_fail bs after after₂ (Ok q) e d = absurd (false≢true e)
-all_fail bs after after₂ (Err s) e d = d
+pub all_fail : (bs : List ℕ) (before after before₂ after₂ : Writer) (r : Result Parsed Stop) → is_err r ≡ true → FindsNone read_decls (tokens bs) → DeclaresAll bs before after before₂ after₂ r
+all_fail bs before after before₂ after₂ (Ok q) e d = absurd (false≢true e)
+all_fail bs before after before₂ after₂ (Err s) e d = d
 
 -- A declaration has some word.
 pub decl_some : (d : Decl) → 1 ≤ length (decl_words d)
@@ -75,3 +79,12 @@ decls_level (d ∷ ds) = ap (max (decl_stage d)) (decls_level ds)
 pub decls_named : (ds : List Decl) → all_names decl_names ds ≡ names_of ds
 decls_named [] = refl
 decls_named (d ∷ ds) = ap (λ (r : List Name). decl_names d ++ r) (decls_named ds)
+
+-- Whether a token comes.
+pub cuts_some : (bs : List ℕ) (r : Option₁ Cut) → true ≡ is_some r → Cuts bs r → (w : Name) × (ws : List Name) × (tokens bs ≡ w ∷ ws)
+cuts_some bs None e d = absurd (false≢true (sym e))
+cuts_some bs (Some c) e d = (lexeme c.token, tokens c.rest.now, d.first)
+
+pub cuts_none : (bs : List ℕ) (r : Option₁ Cut) → false ≡ is_some r → Cuts bs r → tokens bs ≡ []
+cuts_none bs None e d = d
+cuts_none bs (Some c) e d = absurd (false≢true e)

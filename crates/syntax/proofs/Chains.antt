@@ -1,6 +1,6 @@
 -- A term that is read link by link to the right: the frames so far stand before what is still to be read, in the readers, in the
 -- words and in the stage. Then the term is whole, or there is none.
-use Rattle.std.proofs.Common.{◌≡◌, ℕ, zero, suc, ◌+◌, ◌*◌, ◌<◌, ◌≤◌, max, List, [], ◌∷◌, ◌++◌, length, sym, refl, ap, ◌∙◌, ap₂, append_assoc, append-nil, arith}
+use Rattle.std.proofs.Common.{◌≡◌, ℕ, zero, suc, ◌+◌, ◌*◌, ◌<◌, ◌≤◌, max, List, [], ◌∷◌, ◌++◌, length, sym, refl, ap, ◌∙◌, ap₂, append_assoc, append-nil, subst as tr, arith, Bor}
 use mathlib.Core.Option.{Option, some, none}
 use Rattle.syntax.specs.Surface.{Name, Expr, expr_stage}
 use Rattle.syntax.specs.Tokens.{tokens}
@@ -8,8 +8,9 @@ use Rattle.syntax.specs.Tree.{put_name, put_expr}
 use Rattle.syntax.specs.Reader.{Readers, readers}
 use Rattle.syntax.specs.Writing.{Appends}
 use Rattle.syntax.specs.Parsing.{Done, FindsNone, Opened, Frame, f_pi, f_lam, f_have, plug, wrap, frame_words, frame_stage, expr_words, lower}
+use Rattle.syntax.specs.declared.write.Writer.{Writer}
 use Rattle.syntax.specs.declared.reading.Read.{Read}
-use Rattle.syntax.proofs.Appending.{append_none, append_then, append_as, append_to}
+use Rattle.syntax.proofs.Appending.{append_none, append_then, append_as}
 use Rattle.syntax.proofs.TreeWords.{expr_apart, expr_then, name_apart}
 
 -- Several frames, the outermost first.
@@ -70,20 +71,20 @@ plugs_stage [] a = omega arith
 plugs_stage (f ∷ fs) a = plug-stage f (plugs fs a) ∙ (let z : max (frame_stage f) (expr_stage (plugs fs a)) ≡ max (max (frame_stage f) (frames-stage fs)) (expr_stage a) = omega (arith, plugs_stage fs a) in z)
 
 -- Some frames were read from the bytes bs₀, and the bytes bs are left.
-pub record Chain (s : ℕ → List Name → Option (Expr × List Name)) (bs₀ before : List ℕ) (len : ℕ) (after bs : List ℕ) (end stage : ℕ) : Type 0 where
+pub record Chain (s : ℕ → List Name → Option (Expr × List Name)) (bs₀ : List ℕ) (before after : Writer) (bs : List ℕ) (stage : ℕ) : Type 0 where
   pub frames : List Frame
   pub links : (n : ℕ) → length (tokens bs₀) < n → (m : ℕ) × (length (tokens bs) < m) × (s n (tokens bs₀) ≡ wraps frames (s m (tokens bs)))
-  pub wrote : Appends before len (frames_words frames) after end
+  pub wrote : Appends before (frames_words frames) after
   pub stages : stage ≡ frames-stage frames
   pub fewer : length (tokens bs) ≤ length (tokens bs₀)
-  pub room : end + 4 * length bs ≤ len + 4 * length bs₀
+  pub room : after.len + 4 * length bs ≤ before.len + 4 * length bs₀
 
-pub chain_start : (s : ℕ → List Name → Option (Expr × List Name)) (bs before : List ℕ) (len : ℕ) → Chain s bs before len before bs len 0
-chain_start s bs before len =
+pub chain_start : (s : ℕ → List Name → Option (Expr × List Name)) (bs : List ℕ) (before : Writer) → Chain s bs before before bs 0
+chain_start s bs before =
     record {
       frames = [];
       links = λ n h. (n, h, refl);
-      wrote = append_to before before len (len + 0) len [] (omega arith) (append_none before len);
+      wrote = append_none before;
       stages = refl;
       fewer = omega arith;
       room = omega arith;
@@ -101,37 +102,37 @@ module _ (s : ℕ → List Name → Option (Expr × List Name)) (g : Readers →
   one_more ts ts₁ ts₂ fs f n zero h e l o = absurd (let z : ⊥ = omega arith in z)
   one_more ts ts₁ ts₂ fs f n (suc m) h e l o = (m, omega arith, e ∙ ap (wraps fs) (at_suc m ts₁ ∙ o m (omega arith)) ∙ sym (wraps_last fs f (s m ts₂)))
 
-  pub chain_more : (bs₀ before : List ℕ) (len : ℕ) (o o₁ bs : List ℕ) (end stage stage₁ : ℕ) (q : Read) → stage₁ ≡ max stage q.stage → Chain s bs₀ before len o bs end stage
-      → Opened 0 g s (tokens bs) (4 * length bs) o end o₁ q → Chain s bs₀ before len o₁ q.rest.now q.len stage₁
-  chain_more bs₀ before len o o₁ bs end stage stage₁ q e c d =
-      record {
+  pub chain_more : (bs₀ : List ℕ) (before o o₁ : Writer) (bs : List ℕ) (stage : ℕ) (q p : Read) → p.rest ≡ q.rest → p.stage ≡ max stage q.stage → Chain s bs₀ before o bs stage
+      → Opened 0 g s (tokens bs) (4 * length bs) o o₁ q → Chain s bs₀ before o₁ p.rest.now p.stage
+  chain_more bs₀ before o o₁ bs stage q p e₁ e c d = tr (λ (r : Bor (List ℕ)). Chain s bs₀ before o₁ r.now p.stage) (sym e₁)
+      (record {
         frames = c.frames ++ (d.frame ∷ []);
         links = λ n h. let l = c.links n h in one_more _ _ _ c.frames d.frame n l.0 l.1 l.2 d.fewer d.opens;
-        wrote = append_as _ _ _ _ _ _ (words_last c.frames d.frame) (append_then before o o₁ len end q.len _ _ c.wrote d.wrote);
+        wrote = append_as (words_last c.frames d.frame) (append_then c.wrote d.wrote);
         stages = e ∙ ap₂ max c.stages d.stage ∙ sym (stage_last c.frames d.frame);
         fewer = omega (arith, c.fewer, d.fewer);
         room = omega (arith, c.room, d.room);
-      }
+      })
 
   -- The last part.
-  pub chain_last : (bs₀ before : List ℕ) (len : ℕ) (o o₁ bs : List ℕ) (end stage : ℕ) (q p : Read) → p.rest ≡ q.rest → p.len ≡ q.len → p.stage ≡ max stage q.stage
-      → Chain s bs₀ before len o bs end stage
-      → Done (lower g) expr_words expr_stage 1 (tokens bs) (4 * length bs) o end o₁ q
-      → Done (lower g) expr_words expr_stage 1 (tokens bs₀) (4 * length bs₀) before len o₁ p
-  chain_last bs₀ before len o o₁ bs end stage q p e₁ e₂ e₃ c d =
+  pub chain_last : (bs₀ : List ℕ) (before o o₁ : Writer) (bs : List ℕ) (stage : ℕ) (q p : Read) → p.rest ≡ q.rest → p.stage ≡ max stage q.stage
+      → Chain s bs₀ before o bs stage
+      → Done (lower g) expr_words expr_stage 1 (tokens bs) (4 * length bs) o o₁ q
+      → Done (lower g) expr_words expr_stage 1 (tokens bs₀) (4 * length bs₀) before o₁ p
+  chain_last bs₀ before o o₁ bs stage q p e₁ e₃ c d =
       record {
         value = plugs c.frames d.value;
         reads = λ n h. let l = c.links n h in
             sym (is_lower n (tokens bs₀)) ∙ l.2 ∙ ap (wraps c.frames) (is_lower l.0 (tokens bs) ∙ d.reads l.0 l.1) ∙ wraps_some c.frames d.value _
             ∙ ap (λ r. some (plugs c.frames d.value, tokens r.now)) (sym e₁);
-        wrote = append_to _ _ _ _ _ _ (sym e₂) (append_as _ _ _ _ _ _ (plugs_words c.frames d.value) (append_then before o o₁ len end q.len _ _ c.wrote d.wrote));
+        wrote = append_as (plugs_words c.frames d.value) (append_then c.wrote d.wrote);
         stage = e₃ ∙ ap₂ max c.stages d.stage ∙ sym (plugs_stage c.frames d.value);
         fewer = omega (arith, c.fewer, d.fewer, ap (λ r. length (tokens r.now)) e₁);
-        room = omega (arith, c.room, d.room, ap (λ r. length r.now) e₁, e₂);
+        room = omega (arith, c.room, d.room, ap (λ r. length r.now) e₁);
       }
 
   -- There is none.
-  pub chain_none : (bs₀ before : List ℕ) (len : ℕ) (o bs : List ℕ) (end stage : ℕ) → Chain s bs₀ before len o bs end stage → FindsNone (lower g) (tokens bs) → FindsNone (lower g) (tokens bs₀)
-  chain_none bs₀ before len o bs end stage c d n h =
+  pub chain_none : (bs₀ : List ℕ) (before o : Writer) (bs : List ℕ) (stage : ℕ) → Chain s bs₀ before o bs stage → FindsNone (lower g) (tokens bs) → FindsNone (lower g) (tokens bs₀)
+  chain_none bs₀ before o bs stage c d n h =
       let l = c.links n h in
       sym (is_lower n (tokens bs₀)) ∙ l.2 ∙ ap (wraps c.frames) (is_lower l.0 (tokens bs) ∙ d l.0 l.1) ∙ wraps_none c.frames

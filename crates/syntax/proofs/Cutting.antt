@@ -1,45 +1,53 @@
 -- How the tokens of bytes begin: blanks and comments bring none, a word goes on to the first byte that is no letter,
 -- and a sign or another byte is a token by itself.
-use Rattle.std.proofs.Common.{◌≡◌, ℕ, zero, suc, ◌+◌, ◌<◌, ◌≤◌, Bool, true, false, not, ◌&&◌, ◌||◌, eqb, List, [], ◌∷◌, ◌++◌, length, get_or, take, drop, sym, refl, ap, ◌∙◌, arith, drop_of_length-le, drop-cons}
-use Rattle.std.proofs.lemmas.List.{take_more}
-use Rattle.std.proofs.lemmas.Bool.{ne_eqb, cond-false, both_ways, and_from, and_parts}
+use Rattle.std.proofs.Common.{◌≡◌, ℕ, suc, ◌+◌, ◌<◌, ◌≤◌, Bool, true, false, cond, not, ◌&&◌, ◌||◌, eqb, List, [], ◌∷◌, ◌++◌, length, get_or, take, drop, sym, refl, ap, ap₂, ◌∙◌, append_assoc, append-nil, eqb→eq, arith, length-take, drop_of_length-le, drop-cons}
+use Rattle.std.proofs.lemmas.List.{drop-drop}
+use Rattle.std.proofs.lemmas.List.Sums.{take_while-cons}
+use Rattle.std.specs.List.{take_while}
+use Rattle.std.proofs.lemmas.Bool.{ne_eqb, cond-false}
 use Rattle.syntax.specs.Grammar.{letters}
 use Rattle.syntax.specs.Lexing.{Solid, NoLetter}
 use Rattle.syntax.specs.Surface.{Name}
-use Rattle.syntax.specs.Tokens.{Mode, Turn, between, word, comment, letter, blank, begins, joins, fresh, tokens, tokens_from}
+use Rattle.syntax.specs.Tokens.{Turn, word, comment, letter, blank, begins, joins, fresh, tokens, tokens_from}
 
--- Where skipping stands: in a comment, or between tokens.
-abbrev pub skipping : Bool → Mode
-skipping true = comment
-skipping false = between
+-- The elements from the front on that pass a test.
+abbrev cut : (ℕ → Bool) → List ℕ → List ℕ
+cut p [] = []
+cut p (c ∷ cs) = cond (p c) (c ∷ cut p cs) []
 
--- At the end of the bytes no token is left.
-pub skip_end : (b : Bool) → tokens_from (skipping b) [] ≡ []
-skip_end true = refl
-skip_end false = refl
+cut_is : (p : ℕ → Bool) (cs : List ℕ) → take_while p cs ≡ cut p cs
+cut_is p [] = refl
+cut_is p (c ∷ cs) = take_while-cons p c cs ∙ ap (λ (r : List ℕ). cond (p c) (c ∷ r) []) (cut_is p cs)
 
--- In a comment every byte is skipped, up to the end of the line.
-pub skip_comment : (c : ℕ) (cs : List ℕ) (b : Bool) → not (eqb c 10) ≡ b → tokens_from comment (c ∷ cs) ≡ tokens_from (skipping b) cs
-skip_comment c cs b p = go (eqb c 10) refl p
+-- A comment goes on to the end of the line.
+comment_line : (cs : List ℕ) → tokens_from comment cs ≡ tokens (drop (length (cut (λ b. not (eqb b 10)) cs)) cs)
+comment_line [] = refl
+comment_line (c ∷ cs) = go (eqb c 10) refl (comment_line cs)
   where
-    go : (x : Bool) → eqb c 10 ≡ x → not x ≡ b → tokens_from comment (c ∷ cs) ≡ tokens_from (skipping b) cs
-    go true q r = rw (q, ← r) refl
-    go false q r = rw (q, ← r) refl
+    go : (x : Bool) → eqb c 10 ≡ x → tokens_from comment cs ≡ tokens (drop (length (cut (λ b. not (eqb b 10)) cs)) cs)
+        → tokens_from comment (c ∷ cs) ≡ tokens (drop (length (cut (λ b. not (eqb b 10)) (c ∷ cs))) (c ∷ cs))
+    go true q i = rw (eqb→eq c 10 (rw q tt)) refl
+    go false q i = rw q i
 
--- A comment begins.
-pub skip_hash : (c : ℕ) (cs : List ℕ) → c ≡ 35 → tokens (c ∷ cs) ≡ tokens_from comment cs
-skip_hash c cs p = rw p refl
+-- A comment or a blank at byte n is skipped.
+hash_first : (ds cs : List ℕ) (c k : ℕ) → ds ≡ c ∷ cs → c ≡ 35 → k ≡ length (cut (λ b. not (eqb b 10)) ds) → tokens ds ≡ tokens (drop k ds)
+hash_first ds cs c k d x e = rw (e, d, x) (comment_line cs)
 
--- A blank is skipped.
-pub skip_blank : (c : ℕ) (cs : List ℕ) → blank c ≡ true → tokens (c ∷ cs) ≡ tokens cs
-skip_blank c cs p = rw p refl
+pub hash_at : (bs : List ℕ) (n k : ℕ) → n < length bs → get_or bs n 0 ≡ 35 → k ≡ length (take_while (λ b. not (eqb b 10)) (drop n bs)) → tokens (drop n bs) ≡ tokens (drop (n + k) bs)
+hash_at bs n k h x e = hash_first (drop n bs) _ (get_or bs n 0) k (drop-cons bs n 0 h) x (e ∙ ap length (cut_is _ (drop n bs))) ∙ ap tokens (drop-drop k n bs)
 
--- One byte further: what the byte at n brings, put behind what is known up to n.
-pub one_further : (m₁ m₂ : Mode) (ts : List Name) (bs : List ℕ) (n : ℕ) → n < length bs
-    → ts ≡ tokens_from m₁ (drop n bs)
-    → ((cs : List ℕ) → tokens_from m₁ (get_or bs n 0 ∷ cs) ≡ tokens_from m₂ cs)
-    → ts ≡ tokens_from m₂ (drop (n + 1) bs)
-one_further m₁ m₂ ts bs n h p f = p ∙ ap (tokens_from m₁) (drop-cons bs n 0 h) ∙ f (drop (suc n) bs) ∙ ap (λ (k : ℕ). tokens_from m₂ (drop k bs)) (let z : suc n ≡ n + 1 = omega arith in z)
+pub blank_at : (bs : List ℕ) (n : ℕ) → n < length bs → blank (get_or bs n 0) ≡ true → tokens (drop n bs) ≡ tokens (drop (n + 1) bs)
+blank_at bs n h x = ap tokens (drop-cons bs n 0 h) ∙ skip_blank (get_or bs n 0) _ x ∙ ap (λ (k : ℕ). tokens (drop k bs)) (let z : suc n ≡ n + 1 = omega arith in z)
+  where
+    skip_blank : (c : ℕ) (cs : List ℕ) → blank c ≡ true → tokens (c ∷ cs) ≡ tokens cs
+    skip_blank c cs p = rw p refl
+
+-- Skipping is over at the end, and at a byte that is neither blank nor #.
+pub skip_stop : (bs : List ℕ) (n : ℕ) → n < length bs → blank (get_or bs n 0) ≡ false → (get_or bs n 0 ≡ 35 → ⊥) → Solid (drop n bs)
+skip_stop bs n h b x = rw (drop-cons bs n 0 h) (b, ne_eqb _ _ x)
+
+pub skip_all : (bs : List ℕ) (n : ℕ) → length bs ≤ n → Solid (drop n bs)
+skip_all bs n h = rw (drop_of_length-le bs h) tt
 
 -- A byte where no token is open: what it brings does not depend on the token that has just ended.
 fresh-behind : (w : Name) (c : ℕ) (cs : List ℕ) → (fresh (w ∷ []) c).out ++ tokens_from (fresh (w ∷ []) c).mode cs ≡ w ∷ tokens (c ∷ cs)
@@ -61,51 +69,52 @@ word_letter w c cs p = rw p refl
 pub word_ends : (w : Name) (c : ℕ) (cs : List ℕ) → letter c ≡ false → tokens_from (word w) (c ∷ cs) ≡ w ∷ tokens (c ∷ cs)
 word_ends w c cs p = ap (λ (t : Turn). t.out ++ tokens_from t.mode cs) (cond-false (letter c) _ _ p) ∙ fresh-behind w c cs
 
--- A word that reaches byte n: the next letter goes into it; at another byte or at the end it is a token.
-pub word_on : (bs : List ℕ) (n : ℕ) → n < length bs → letter (get_or bs n 0) ≡ true
-    → tokens_from (word []) bs ≡ tokens_from (word (take n bs)) (drop n bs)
-    → tokens_from (word []) bs ≡ tokens_from (word (take (n + 1) bs)) (drop (n + 1) bs)
-word_on bs n h l p =
-    one_further (word (take n bs)) (word (take (n + 1) bs)) _ bs n h p
-    (λ cs. word_letter (take n bs) (get_or bs n 0) cs l ∙ ap (λ (w : Name). tokens_from (word w) cs) (sym (take_more bs n 0 h)))
+-- A word goes on to the first byte that is no letter.
+word_cut : (w cs : List ℕ) → tokens_from (word w) cs ≡ (w ++ cut letter cs) ∷ tokens (drop (length (cut letter cs)) cs)
+word_cut w [] = ap (λ (x : Name). x ∷ []) (sym (append-nil w))
+word_cut w (c ∷ cs) = go (letter c) refl (word_cut (w ++ (c ∷ [])) cs)
+  where
+    go : (x : Bool) → letter c ≡ x
+        → tokens_from (word (w ++ (c ∷ []))) cs ≡ ((w ++ (c ∷ [])) ++ cut letter cs) ∷ tokens (drop (length (cut letter cs)) cs)
+        → tokens_from (word w) (c ∷ cs) ≡ (w ++ cut letter (c ∷ cs)) ∷ tokens (drop (length (cut letter (c ∷ cs))) (c ∷ cs))
+    go true q i =
+        word_letter w c cs q ∙ i
+        ∙ ap (λ (x : Name). x ∷ tokens (drop (length (cut letter cs)) cs)) (append_assoc w (c ∷ []) _)
+        ∙ (rw q refl)
+    go false q i = word_ends w c cs q ∙ ap₂ (λ (x : Name) (n : ℕ). x ∷ tokens (drop n (c ∷ cs))) (sym (append-nil w) ∙ ap (λ (r : List ℕ). w ++ r) (sym none)) (ap length (sym none))
+      where
+        none : cut letter (c ∷ cs) ≡ []
+        none = rw q refl
 
-pub word_stop : (bs : List ℕ) (n : ℕ) → n < length bs → letter (get_or bs n 0) ≡ false
-    → tokens_from (word []) bs ≡ tokens_from (word (take n bs)) (drop n bs)
-    → tokens_from (word []) bs ≡ take n bs ∷ tokens (drop n bs)
-word_stop bs n h l p =
-    p ∙ ap (tokens_from (word (take n bs))) (drop-cons bs n 0 h) ∙ word_ends (take n bs) (get_or bs n 0) _ l
-    ∙ ap (λ (r : List ℕ). take n bs ∷ tokens r) (sym (drop-cons bs n 0 h))
+take_cut : (p : ℕ → Bool) (cs : List ℕ) → take (length (cut p cs)) cs ≡ cut p cs
+take_cut p [] = refl
+take_cut p (c ∷ cs) = go (p c) refl (take_cut p cs)
+  where
+    go : (x : Bool) → p c ≡ x → take (length (cut p cs)) cs ≡ cut p cs → take (length (cut p (c ∷ cs))) (c ∷ cs) ≡ cut p (c ∷ cs)
+    go true q i = rw q (ap (λ (r : List ℕ). c ∷ r) i)
+    go false q i = rw q refl
 
-pub word_all : (bs : List ℕ) (n : ℕ) → length bs ≤ n
-    → tokens_from (word []) bs ≡ tokens_from (word (take n bs)) (drop n bs)
-    → tokens_from (word []) bs ≡ take n bs ∷ tokens (drop n bs)
-word_all bs n h p = p ∙ rw (drop_of_length-le bs h) refl
+cut_letters : (cs : List ℕ) → letters (cut letter cs) ≡ true
+cut_letters [] = refl
+cut_letters (c ∷ cs) = go (letter c) refl (cut_letters cs)
+  where
+    go : (x : Bool) → letter c ≡ x → letters (cut letter cs) ≡ true → letters (cut letter (c ∷ cs)) ≡ true
+    go true q i = rw q (rw q i)
+    go false q i = rw q refl
 
--- Skipping that reaches byte n: at the end nothing is left; at a byte that is neither blank nor # it is over.
-pub skip_all : (b : Bool) (bs : List ℕ) (n : ℕ) → length bs ≤ n → tokens bs ≡ tokens_from (skipping b) (drop n bs)
-    → (tokens bs ≡ tokens (drop n bs)) × Solid (drop n bs)
-skip_all b bs n h p = rw (drop_of_length-le bs h) ((p ∙ ap (tokens_from (skipping b)) (drop_of_length-le bs h) ∙ skip_end b), tt)
+pub cut_some : (p : ℕ → Bool) (cs : List ℕ) → p (get_or cs 0 0) ≡ true → 0 < length cs → 0 < length (take_while p cs)
+cut_some p [] q h = absurd (let z : ⊥ = omega arith in z)
+cut_some p (c ∷ cs) q h = rw (cut_is p (c ∷ cs), q) (omega arith)
 
-pub skip_stop : (bs : List ℕ) (n : ℕ) → n < length bs → blank (get_or bs n 0) ≡ false → (get_or bs n 0 ≡ 35 → ⊥) → Solid (drop n bs)
-skip_stop bs n h b x = rw (drop-cons bs n 0 h) (b, ne_eqb _ _ x)
+pub cut_within : (p : ℕ → Bool) (cs : List ℕ) → length (take_while p cs) ≤ length cs
+cut_within p cs = omega (arith, ap length (cut_is p cs), ap length (take_cut p cs), length-take (length (cut p cs)) cs)
 
--- Skipping over the byte at n: in a comment; a comment that begins; a blank.
-pub skip_on_comment : (b b' : Bool) (bs : List ℕ) (n : ℕ) → n < length bs → tokens bs ≡ tokens_from (skipping b) (drop n bs)
-    → b ≡ true → b' ≡ not (eqb (get_or bs n 0) 10) → tokens bs ≡ tokens_from (skipping b') (drop (n + 1) bs)
-skip_on_comment b b' bs n h p q r =
-    one_further comment (skipping b') _ bs n h (p ∙ ap (λ (x : Bool). tokens_from (skipping x) (drop n bs)) q) (λ cs. skip_comment (get_or bs n 0) cs b' (sym r))
+-- The word at the front, by how many bytes it has.
+pub word_front : (cs : List ℕ) (n : ℕ) → n ≡ length (take_while letter cs) → tokens_from (word []) cs ≡ take n cs ∷ tokens (drop n cs)
+word_front cs n e = word_cut [] cs ∙ rw (e ∙ ap length (cut_is letter cs)) (ap (λ (x : Name). x ∷ tokens (drop (length (cut letter cs)) cs)) (sym (take_cut letter cs)))
 
-pub skip_on_hash : (b b' : Bool) (bs : List ℕ) (n : ℕ) → n < length bs → tokens bs ≡ tokens_from (skipping b) (drop n bs)
-    → b ≡ false → b' ≡ true → get_or bs n 0 ≡ 35 → tokens bs ≡ tokens_from (skipping b') (drop (n + 1) bs)
-skip_on_hash b b' bs n h p q r x =
-    one_further between comment _ bs n h (p ∙ ap (λ (x : Bool). tokens_from (skipping x) (drop n bs)) q) (λ cs. skip_hash (get_or bs n 0) cs x)
-    ∙ ap (λ (x : Bool). tokens_from (skipping x) (drop (n + 1) bs)) (sym r)
-
-pub skip_on_blank : (b b' : Bool) (bs : List ℕ) (n : ℕ) → n < length bs → tokens bs ≡ tokens_from (skipping b) (drop n bs)
-    → b ≡ false → b' ≡ b → blank (get_or bs n 0) ≡ true → tokens bs ≡ tokens_from (skipping b') (drop (n + 1) bs)
-skip_on_blank b b' bs n h p q r x =
-    one_further between between _ bs n h (p ∙ ap (λ (x : Bool). tokens_from (skipping x) (drop n bs)) q) (λ cs. skip_blank (get_or bs n 0) cs x)
-    ∙ ap (λ (x : Bool). tokens_from (skipping x) (drop (n + 1) bs)) (sym (r ∙ q))
+pub word_letters : (cs : List ℕ) (n : ℕ) → n ≡ length (take_while letter cs) → letters (take n cs) ≡ true
+word_letters cs n e = ap (λ (k : ℕ). letters (take k cs)) (e ∙ ap length (cut_is letter cs)) ∙ ap letters (take_cut letter cs) ∙ cut_letters cs
 
 -- A word begins.
 pub word_begins : (c : ℕ) (cs : List ℕ) → Solid (c ∷ cs) → letter c ≡ true → (c ≡ 95 → ⊥) → tokens (c ∷ cs) ≡ tokens_from (word []) (c ∷ cs)
@@ -138,11 +147,6 @@ sign_last c s l = go (begins c) refl
     go true q = rw (s.0, s.1, l, q) refl
     go false q = rw (s.0, s.1, l, q) refl
 
--- Where the first byte is a letter, a word that stops at n has some byte.
-pub stopped_later : (bs : List ℕ) (n : ℕ) → letter (get_or bs n 0) ≡ false → letter (get_or bs 0 0) ≡ true → 0 < n
-stopped_later bs zero p q = absurd (both_ways _ p q)
-stopped_later bs (suc n) p q = omega arith
-
 -- The same by places: the sign or the symbol at the front, and the word.
 pub sign_at : (bs : List ℕ) → 1 < length bs → Solid bs → NoLetter (get_or bs 0 0) → joins (get_or bs 0 0) (get_or bs 1 0) ≡ true
     → tokens bs ≡ (get_or bs 0 0 ∷ get_or bs 1 0 ∷ []) ∷ tokens (drop 2 bs)
@@ -159,14 +163,6 @@ symbol_at (c ∷ d ∷ cs) h s l j = sign_one c d cs s l (j (omega arith))
 pub word_at : (bs : List ℕ) → 0 < length bs → Solid bs → letter (get_or bs 0 0) ≡ true → (get_or bs 0 0 ≡ 95 → ⊥) → tokens bs ≡ tokens_from (word []) bs
 word_at [] h s l u = absurd (let z : ⊥ = omega arith in z)
 word_at (c ∷ cs) h s l u = word_begins c cs s l u
-
--- One more letter.
-letters_append : (xs ys : Name) → letters xs ≡ true → letters ys ≡ true → letters (xs ++ ys) ≡ true
-letters_append [] ys p q = q
-letters_append (x ∷ xs) ys p q = and_from (letter x) _ (and_parts (letter x) _ p).0 (letters_append xs ys (and_parts (letter x) _ p).1 q)
-
-pub letters_on : (bs : List ℕ) (n : ℕ) → n < length bs → letters (take n bs) ≡ true → letter (get_or bs n 0) ≡ true → letters (take (n + 1) bs) ≡ true
-letters_on bs n h p q = ap letters (take_more bs n 0 h) ∙ letters_append (take n bs) _ p (and_from (letter (get_or bs n 0)) _ q refl)
 
 -- The bytes from the first one or two on.
 pub one_first : (bs : List ℕ) → 0 < length bs → bs ≡ get_or bs 0 0 ∷ drop 1 bs

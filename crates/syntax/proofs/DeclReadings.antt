@@ -1,17 +1,21 @@
 -- What the readers of declarations do, step by step, in the order in which the parser tests; and the words of their parts.
-use Rattle.std.proofs.Common.{◌≡◌, ℕ, suc, ◌+◌, ◌≤◌, max, true, List, [], ◌∷◌, ◌++◌, length, is_err, Ok, Err, Result, sym, refl, ap, ◌∙◌, append_assoc, append-nil}
+use Rattle.std.proofs.Common.{◌≡◌, ℕ, suc, ◌+◌, ◌≤◌, max, true, List, [], ◌∷◌, ◌++◌, length, is_err, Ok, Err, Result, sym, refl, ap, ◌∙◌, append_assoc, append-nil, arith}
 use mathlib.Core.Option.{Option, some, none}
 use Rattle.std.proofs.lemmas.Bool.{eq-eqb, ne_eqb, cond-true, cond-false, false≢true}
 use Rattle.syntax.specs.declared.problem.Stop.{Stop}
-use Rattle.syntax.specs.declared.declarations.Progress.{Progress}
+use Rattle.syntax.specs.declared.reading.Read.{Read}
 use Rattle.syntax.specs.Tokens.{tokens}
+use Rattle.syntax.specs.Lexing.{Behind}
 use Rattle.syntax.specs.Surface.{Name, Expr, Param, ConDecl, Decl, d_def, d_axiom, d_data, expr_stage, hide_stage, params_stage, cons_stage, con_names}
 use Rattle.syntax.specs.Tree.{put_name, put_expr, put_params, put_cons}
-use Rattle.syntax.specs.Grammar.{t_lp, t_rp, t_lc, t_rc, t_colon, t_is, t_semi, k_type, k_again}
+use Rattle.syntax.specs.Grammar.{k_hide, t_lp, t_rp, t_lc, t_rc, t_colon, t_is, t_semi, k_type, k_again}
 use Rattle.syntax.specs.Reader.{bind, then, eat, readers, read_name, read_number, read_hide, read_params, read_cons, read_def, read_axiom, read_data}
+use Rattle.syntax.specs.Parsing.{Follows, ExpectsNumber, expr_words, level, read_bound}
+use Rattle.syntax.specs.declared.scan.Number.{Number}
+use Rattle.syntax.specs.declared.write.Writer.{Writer}
 use Rattle.syntax.proofs.Gives.{option_is, option_not, then_is}
 use Rattle.syntax.proofs.TermReadings.{then_not}
-use Rattle.syntax.specs.Declaring.{note_words, param_words, param_stage, con_words, read_param, read_con, Head, read_head, read_typed, head_words, con_name, con_stage, Declares}
+use Rattle.syntax.specs.Declaring.{note_words, param_words, param_stage, con_words, read_param, read_con, Head, read_head, read_typed, head_words, con_name, con_stage, Declares, Hides}
 use Rattle.syntax.proofs.TreeWords.{expr_apart, expr_then, name_apart}
 use Rattle.syntax.proofs.Items.{all_words, all_level, all_names, prepend}
 
@@ -157,7 +161,50 @@ head_apart tag h r = ap (λ (z : List ℕ). tag ∷ z) (sym (name_apart h.name (
 
 -- An error says that nothing is found.
 pub declares_fail : {A : Type 0} (d : ℕ) (f : ℕ → List Name → Option (A × List Name)) (words : A → List ℕ) (names : A → List Name) (level : A → ℕ)
-    (bs before : List ℕ) (len : ℕ) (after before₂ : List ℕ) (used : ℕ) (after₂ : List ℕ) (r : Result Progress Stop)
-    → is_err r ≡ true → ((n : ℕ) → d + length (tokens bs) ≤ n → f n (tokens bs) ≡ none) → Declares d f words names level bs before len after before₂ used after₂ r
-declares_fail d f words names level bs before len after before₂ used after₂ (Ok q) e h = absurd (false≢true e)
-declares_fail d f words names level bs before len after before₂ used after₂ (Err s) e h = h
+    (bs : List ℕ) (before after before₂ after₂ : Writer) (r : Result Read Stop)
+    → is_err r ≡ true → ((n : ℕ) → d + length (tokens bs) ≤ n → f n (tokens bs) ≡ none) → Declares d f words names level bs before after before₂ after₂ r
+declares_fail d f words names level bs before after before₂ after₂ (Ok q) e h = absurd (false≢true e)
+declares_fail d f words names level bs before after before₂ after₂ (Err s) e h = h
+
+-- A call of f behind a first word says what g says.
+pub declares_by : {A : Type 0} (f g : ℕ → List Name → Option (A × List Name)) (words : A → List ℕ) (names : A → List Name) (level : A → ℕ) (bs us : List ℕ) (before after before₂ after₂ : Writer) (r : Result Read Stop)
+    → ((n : ℕ) → f n (tokens bs) ≡ g n (tokens us)) → Behind bs us → Declares 0 g words names level us before after before₂ after₂ r → Declares 0 f words names level bs before after before₂ after₂ r
+declares_by f g words names level bs us before after before₂ after₂ (Ok q) e b d =
+    record {
+      value = d.value;
+      reads = λ n h. e n ∙ d.reads n (omega (arith, h, b.fewer));
+      wrote = d.wrote;
+      notes = d.notes;
+      named = d.named;
+      noted = d.noted;
+      stage = d.stage;
+      fewer = omega (arith, d.fewer, b.fewer);
+      room = omega (arith, d.room, b.shorter);
+      note_room = omega (arith, d.note_room, b.shorter);
+    }
+declares_by f g words names level bs us before after before₂ after₂ (Err s) e b d = λ n h. e n ∙ d n (omega (arith, h, b.fewer))
+
+-- A type behind a parameter's name says what the parameter is.
+pub param_by : (x : Name) (ts us : List Name) (b₁ b₂ : ℕ) (before after : Writer) (r : Result Read Stop) → ((n : ℕ) → read_param n ts ≡ then (read_bound (readers n) us) (λ a vs. some (record { name = x; type = a }, vs)))
+    → length us ≤ length ts → b₁ ≤ b₂ → Follows (level read_bound) (λ a. 11 ∷ put_name x (expr_words a)) expr_stage 1 us b₁ before after r → Follows read_param param_words param_stage 1 ts b₂ before after r
+param_by x ts us b₁ b₂ before after (Ok q) e l k d =
+    record {
+      value = record { name = x; type = d.value };
+      reads = λ n h. e n ∙ then_is _ _ (d.reads n (omega arith)) refl;
+      wrote = d.wrote;
+      stage = d.stage;
+      fewer = omega (arith, d.fewer);
+      room = omega (arith, d.room);
+    }
+param_by x ts us b₁ b₂ before after (Err s) e l k d = λ n h. e n ∙ then_not _ _ (d n (omega arith))
+
+-- A number behind hide says what is hidden.
+pub hides_by : (bs us : List ℕ) (r : Result Number Stop) → eat k_hide (tokens bs) ≡ some (tokens us) → Behind bs us → ExpectsNumber us r → Hides bs r
+hides_by bs us (Ok n) e b d =
+    record {
+      reads = option_is _ _ _ e d.reads;
+      shorter = omega (arith, b.shorter, d.behind.shorter);
+      fewer = omega (arith, b.fewer, d.behind.fewer);
+      small = d.small;
+    }
+hides_by bs us (Err s) e b d = option_is _ _ _ e d

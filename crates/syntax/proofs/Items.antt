@@ -1,12 +1,13 @@
 -- A list that is read item by item: the items so far stand before those to come, in the reader, in the words, in the notes of
 -- declared names and in the stage. Said once for parameters, constructors and declarations.
-use Rattle.std.proofs.Common.{◌≡◌, ℕ, zero, suc, ◌+◌, ◌*◌, ◌<◌, ◌≤◌, max, List, [], ◌∷◌, ◌++◌, length, sym, refl, ap, ◌∙◌, ap₂, append_assoc, append-nil, arith}
+use Rattle.std.proofs.Common.{◌≡◌, ℕ, zero, suc, ◌+◌, ◌*◌, ◌<◌, ◌≤◌, max, List, [], ◌∷◌, ◌++◌, length, sym, refl, ap, ◌∙◌, ap₂, append_assoc, append-nil, arith, Bor}
 use mathlib.Core.Option.{Option, some, none}
 use Rattle.syntax.specs.Surface.{Name}
 use Rattle.syntax.specs.Tokens.{tokens}
 use Rattle.syntax.specs.Writing.{Appends}
+use Rattle.syntax.specs.declared.write.Writer.{Writer}
 use Rattle.syntax.specs.Declaring.{Note, note_words, note_names}
-use Rattle.syntax.proofs.Appending.{append_none, append_then, append_as, append_to}
+use Rattle.syntax.proofs.Appending.{append_none, append_then, append_as}
 
 -- Items before those that a reader finds.
 abbrev pub prepend : {A : Type 0} → List A → Option (List A × List Name) → Option (List A × List Name)
@@ -54,22 +55,22 @@ notes_names (m ∷ ms) ns = ap (λ (r : List Name). m.name ∷ r) (notes_names m
 pub notes_named : (ms ns : List Note) (xs ys : List Name) → note_names ms ≡ xs → note_names ns ≡ ys → note_names (ms ++ ns) ≡ xs ++ ys
 notes_named ms ns xs ys p q = notes_names ms ns ∙ ap₂ ◌++◌ p q
 
-pub append_notes : (o₁ o₂ o₃ : List ℕ) (l m n : ℕ) (xs ys : List Note) → Appends o₁ l (note_words xs) o₂ m → Appends o₂ m (note_words ys) o₃ n → Appends o₁ l (note_words (xs ++ ys)) o₃ n
-append_notes o₁ o₂ o₃ l m n xs ys p q = append_as _ _ _ _ _ _ (notes_words xs ys) (append_then o₁ o₂ o₃ l m n _ _ p q)
+pub append_notes : {o₁ o₂ o₃ : Writer} (xs ys : List Note) → Appends o₁ (note_words xs) o₂ → Appends o₂ (note_words ys) o₃ → Appends o₁ (note_words (xs ++ ys)) o₃
+append_notes xs ys p q = append_as (notes_words xs ys) (append_then p q)
 
 -- Some items were read from the bytes bs₀, and the bytes bs are left.
 pub record Items {A : Type 0} (f : ℕ → List Name → Option (List A × List Name)) (words : A → List ℕ) (names : A → List Name) (level : A → ℕ)
-    (bs₀ before : List ℕ) (len : ℕ) (after : List ℕ) (before₂ : List ℕ) (used : ℕ) (after₂ : List ℕ) (bs : List ℕ) (end used₂ stage : ℕ) : Type 0 where
+    (bs₀ : List ℕ) (before before₂ after after₂ : Writer) (bs : List ℕ) (stage : ℕ) : Type 0 where
   pub items : List A
   pub links : (n : ℕ) → length (tokens bs₀) < n → (m : ℕ) × (length (tokens bs) < m) × (f n (tokens bs₀) ≡ prepend items (f m (tokens bs)))
-  pub wrote : Appends before len (all_words words items) after end
+  pub wrote : Appends before (all_words words items) after
   pub notes : List Note
   pub named : note_names notes ≡ all_names names items
-  pub noted : Appends before₂ used (note_words notes) after₂ used₂
+  pub noted : Appends before₂ (note_words notes) after₂
   pub stages : stage ≡ all_level level items
   pub fewer : length (tokens bs) ≤ length (tokens bs₀)
-  pub room : end + 4 * length bs ≤ len + 4 * length bs₀
-  pub note_room : used₂ + 3 * length bs ≤ used + 3 * length bs₀
+  pub room : after.len + 4 * length bs ≤ before.len + 4 * length bs₀
+  pub note_room : after₂.len + 3 * length bs ≤ before₂.len + 3 * length bs₀
 
 module _ {A : Type 0} (f : ℕ → List Name → Option (List A × List Name)) (words : A → List ℕ) (names : A → List Name) (level : A → ℕ) where
   -- No item yet.
@@ -77,15 +78,15 @@ module _ {A : Type 0} (f : ℕ → List Name → Option (List A × List Name)) (
   same_prepend none = refl
   same_prepend (some p) = refl
 
-  abbrev pub items_start : (bs before : List ℕ) (len : ℕ) (before₂ : List ℕ) (used : ℕ) → Items f words names level bs before len before before₂ used before₂ bs len used 0
-  items_start bs before len before₂ used =
+  abbrev pub items_start : (bs : List ℕ) (before before₂ : Writer) → Items f words names level bs before before₂ before before₂ bs 0
+  items_start bs before before₂ =
       record {
         items = [];
         links = λ n h. (n, h, same_prepend (f n (tokens bs)));
-        wrote = append_to before before len (len + 0) len [] (omega arith) (append_none before len);
+        wrote = append_none before;
         notes = [];
         named = refl;
-        noted = append_to before₂ before₂ used (used + 0) used [] (omega arith) (append_none before₂ used);
+        noted = append_none before₂;
         stages = refl;
         fewer = omega arith;
         room = omega arith;
@@ -98,40 +99,57 @@ module _ {A : Type 0} (f : ℕ → List Name → Option (List A × List Name)) (
   next_link ts₀ ts₁ ts₂ xs a n zero l e u o = absurd (let z : ⊥ = omega arith in z)
   next_link ts₀ ts₁ ts₂ xs a n (suc m) l e u o = (m, omega arith, e ∙ ap (prepend xs) (o m (omega arith)) ∙ sym (prepend_last xs a (f m ts₂)))
 
-  abbrev pub items_more : (bs₀ before : List ℕ) (len : ℕ) (o o₁ before₂ : List ℕ) (used : ℕ) (p p₁ bs bs₁ : List ℕ) (end end₁ used₁ used₂ stage stage₁ stage₂ : ℕ) (a : A) (notes : List Note)
-      → Items f words names level bs₀ before len o before₂ used p bs end used₁ stage
+  abbrev pub items_more : (bs₀ : List ℕ) (before before₂ o p o₁ p₁ : Writer) (bs bs₁ : List ℕ) (stage stage₁ stage₂ : ℕ) (a : A) (notes : List Note)
+      → Items f words names level bs₀ before before₂ o p bs stage
       → ((k : ℕ) → length (tokens bs) ≤ k → f (suc k) (tokens bs) ≡ prepend (a ∷ []) (f k (tokens bs₁)))
-      → Appends o end (words a) o₁ end₁ → note_names notes ≡ names a → Appends p used₁ (note_words notes) p₁ used₂
-      → stage₁ ≡ level a → stage₂ ≡ max stage stage₁ → 1 + length (tokens bs₁) ≤ length (tokens bs) → end₁ + 4 * length bs₁ ≤ end + 4 * length bs → used₂ + 3 * length bs₁ ≤ used₁ + 3 * length bs
-      → Items f words names level bs₀ before len o₁ before₂ used p₁ bs₁ end₁ used₂ stage₂
-  items_more bs₀ before len o o₁ before₂ used p p₁ bs bs₁ end end₁ used₁ used₂ stage stage₁ stage₂ a notes c e w nm nw st st₂ l r nr =
+      → Appends o (words a) o₁ → note_names notes ≡ names a → Appends p (note_words notes) p₁
+      → stage₁ ≡ level a → stage₂ ≡ max stage stage₁ → 1 + length (tokens bs₁) ≤ length (tokens bs) → o₁.len + 4 * length bs₁ ≤ o.len + 4 * length bs → p₁.len + 3 * length bs₁ ≤ p.len + 3 * length bs
+      → Items f words names level bs₀ before before₂ o₁ p₁ bs₁ stage₂
+  items_more bs₀ before before₂ o p o₁ p₁ bs bs₁ stage stage₁ stage₂ a notes c e w nm nw st st₂ l r nr =
       record {
         items = c.items ++ (a ∷ []);
         links = λ n h. let k = c.links n h in next_link (tokens bs₀) (tokens bs) (tokens bs₁) c.items a n k.0 k.1 k.2 l e;
-        wrote = append_as _ _ _ _ _ _ (words_last words c.items a) (append_then before o o₁ len end end₁ _ _ c.wrote w);
+        wrote = append_as (words_last words c.items a) (append_then c.wrote w);
         notes = c.notes ++ notes;
         named = notes_names c.notes notes ∙ ap₂ ◌++◌ c.named nm ∙ names_last names c.items a;
-        noted = append_notes before₂ p p₁ used used₁ used₂ c.notes notes c.noted nw;
+        noted = append_notes c.notes notes c.noted nw;
         stages = st₂ ∙ ap₂ max c.stages st ∙ sym (level_last level c.items a);
         fewer = omega (arith, c.fewer, l);
         room = omega (arith, c.room, r);
         note_room = omega (arith, c.note_room, nr);
       }
 
+  -- The same bytes under another name.
+  abbrev pub items_as : (bs₀ : List ℕ) (before before₂ o p : Writer) (r q : Bor (List ℕ)) (stage : ℕ) → q ≡ r → Items f words names level bs₀ before before₂ o p r.now stage → Items f words names level bs₀ before before₂ o p q.now stage
+  items_as bs₀ before before₂ o p r q stage e c =
+      record {
+        items = c.items;
+        links = λ n h. let k = c.links n h in
+            (k.0, omega (arith, k.1, ap (λ (z : Bor (List ℕ)). length (tokens z.now)) e), k.2 ∙ ap (λ (z : Bor (List ℕ)). prepend c.items (f k.0 (tokens z.now))) (sym e));
+        wrote = c.wrote;
+        notes = c.notes;
+        named = c.named;
+        noted = c.noted;
+        stages = c.stages;
+        fewer = omega (arith, c.fewer, ap (λ (z : Bor (List ℕ)). length (tokens z.now)) e);
+        room = omega (arith, c.room, ap (λ (z : Bor (List ℕ)). length z.now) e);
+        note_room = omega (arith, c.note_room, ap (λ (z : Bor (List ℕ)). length z.now) e);
+      }
+
   -- An item is not there where it must be: nothing is found.
-  pub items_none : (bs₀ before : List ℕ) (len : ℕ) (o before₂ : List ℕ) (used : ℕ) (p bs : List ℕ) (end used₁ stage : ℕ)
-      → Items f words names level bs₀ before len o before₂ used p bs end used₁ stage → ((k : ℕ) → length (tokens bs) ≤ k → f (suc k) (tokens bs) ≡ none) → (n : ℕ) → length (tokens bs₀) < n → f n (tokens bs₀) ≡ none
-  items_none bs₀ before len o before₂ used p bs end used₁ stage c e n h = let k = c.links n h in k.2 ∙ ap (prepend c.items) (at_suc k.0 k.1)
+  pub items_none : (bs₀ : List ℕ) (before before₂ o p : Writer) (bs : List ℕ) (stage : ℕ)
+      → Items f words names level bs₀ before before₂ o p bs stage → ((k : ℕ) → length (tokens bs) ≤ k → f (suc k) (tokens bs) ≡ none) → (n : ℕ) → length (tokens bs₀) < n → f n (tokens bs₀) ≡ none
+  items_none bs₀ before before₂ o p bs stage c e n h = let k = c.links n h in k.2 ∙ ap (prepend c.items) (at_suc k.0 k.1)
     where
       at_suc : (m : ℕ) → length (tokens bs) < m → f m (tokens bs) ≡ none
       at_suc zero l = absurd (let z : ⊥ = omega arith in z)
       at_suc (suc m) l = e m (omega arith)
 
   -- The list ends here, and the tokens us are behind it.
-  pub items_end : (bs₀ before : List ℕ) (len : ℕ) (o before₂ : List ℕ) (used : ℕ) (p bs : List ℕ) (end used₁ stage : ℕ) (us : List Name)
-      → (c : Items f words names level bs₀ before len o before₂ used p bs end used₁ stage) → ((k : ℕ) → length (tokens bs) ≤ k → f (suc k) (tokens bs) ≡ some ([], us))
+  pub items_end : (bs₀ : List ℕ) (before before₂ o p : Writer) (bs : List ℕ) (stage : ℕ) (us : List Name)
+      → (c : Items f words names level bs₀ before before₂ o p bs stage) → ((k : ℕ) → length (tokens bs) ≤ k → f (suc k) (tokens bs) ≡ some ([], us))
       → (n : ℕ) → length (tokens bs₀) < n → f n (tokens bs₀) ≡ some (c.items, us)
-  items_end bs₀ before len o before₂ used p bs end used₁ stage us c e n h = let k = c.links n h in k.2 ∙ ap (prepend c.items) (at_suc k.0 k.1) ∙ ap (λ xs. some (xs, us)) (append-nil c.items)
+  items_end bs₀ before before₂ o p bs stage us c e n h = let k = c.links n h in k.2 ∙ ap (prepend c.items) (at_suc k.0 k.1) ∙ ap (λ xs. some (xs, us)) (append-nil c.items)
     where
       at_suc : (m : ℕ) → length (tokens bs) < m → f m (tokens bs) ≡ some ([], us)
       at_suc zero l = absurd (let z : ⊥ = omega arith in z)

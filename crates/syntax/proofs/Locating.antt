@@ -1,13 +1,14 @@
 -- Places in a text: the line of the place one byte further, and what stands where a declaration begins.
-use Rattle.std.proofs.Common.{◌≡◌, ℕ, ◌+◌, ◌-◌, ◌<◌, ◌≤◌, Bool, true, false, cond, eqb, List, [], ◌∷◌, ◌++◌, length, get_or, take, drop, sym, refl, ap, ◌∙◌, inl, inr, append_assoc, add_assoc, zero-add, arith, length-append, take-append-drop, Bor}
+use Rattle.std.proofs.Common.{◌≡◌, ℕ, ◌+◌, ◌-◌, ◌<◌, ◌≤◌, true, false, cond, eqb, List, [], ◌∷◌, ◌++◌, length, take, drop, sym, refl, ap, ◌∙◌, inl, inr, append_assoc, arith, length-append, take-append-drop, Bor}
 use mathlib.Core.Option.{some}
 use lib.Seq.{take-append_seam, drop-append_seam}
-use Rattle.std.proofs.lemmas.List.{take_more}
+use Rattle.std.specs.List.{count_by}
+use Rattle.std.proofs.lemmas.List.Sums.{sum_by-cons}
 use Rattle.std.proofs.lemmas.Bool.{eq-eqb, ne_eqb, cond-true, cond-false}
 use Rattle.syntax.specs.Surface.{Name, same}
 use Rattle.syntax.specs.Tokens.{tokens}
 use Rattle.syntax.specs.Grammar.{is_name, k_def, k_theorem, k_axiom}
-use Rattle.syntax.specs.Lines.{line_ends, line_of}
+use Rattle.syntax.specs.Lines.{line_ends}
 use Rattle.syntax.specs.Lexing.{lexeme, CutsOne, WordAt}
 use Rattle.syntax.specs.Headers.{begins_decl, nth_decl, HeaderAt, TokenAt}
 use Rattle.syntax.specs.declared.lexer.Cut.{Cut}
@@ -16,20 +17,10 @@ use Rattle.syntax.specs.declared.lexer.Token.{Token}
 use Rattle.syntax.specs.declared.lexer.Token.TheVariants.{Word, Becomes, Maps, Arrow, Symbol}
 use Rattle.syntax.proofs.Scanning.{same_lengths}
 
--- The lines that end in two parts.
-line_ends_append : (xs ys : List ℕ) → line_ends (xs ++ ys) ≡ line_ends xs + line_ends ys
-line_ends_append [] ys = sym (zero-add (line_ends ys))
-line_ends_append (x ∷ xs) ys = ap (λ (n : ℕ). cond (eqb x 10) 1 0 + n) (line_ends_append xs ys) ∙ sym (add_assoc (cond (eqb x 10) 1 0) (line_ends xs) (line_ends ys))
-
--- The line one byte further.
-line_next : (bs : List ℕ) (i : ℕ) → i < length bs → line_of bs (i + 1) ≡ line_of bs i + cond (eqb (get_or bs i 0) 10) 1 0
-line_next bs i h = omega (arith, ap line_ends (take_more bs i 0 h), line_ends_append (take i bs) (get_or bs i 0 ∷ []))
-
-pub line_on_end : (bs : List ℕ) (i : ℕ) → i < length bs → get_or bs i 0 ≡ 10 → line_of bs (i + 1) ≡ line_of bs i + 1
-line_on_end bs i h e = line_next bs i h ∙ ap (λ (b : Bool). line_of bs i + cond b 1 0) (eq-eqb _ _ e)
-
-pub line_on_other : (bs : List ℕ) (i : ℕ) → i < length bs → (get_or bs i 0 ≡ 10 → ⊥) → line_of bs (i + 1) ≡ line_of bs i
-line_on_other bs i h e = line_next bs i h ∙ ap (λ (b : Bool). line_of bs i + cond b 1 0) (ne_eqb _ _ e) ∙ omega arith
+-- How many lines end in the bytes.
+pub line_ends_count : (xs : List ℕ) → count_by (λ b. eqb b 10) xs ≡ line_ends xs
+line_ends_count [] = refl
+line_ends_count (x ∷ xs) = sum_by-cons (λ b. cond (eqb b 10) 1 0) x xs ∙ ap (λ (n : ℕ). cond (eqb x 10) 1 0 + n) (line_ends_count xs)
 
 -- A token that is no word begins no declaration.
 one_byte : (b : ℕ) → begins_decl (b ∷ []) ≡ false

@@ -1,37 +1,21 @@
--- Notes of declared names in words: where a note's name stands and where the next note does; and lists of names that are taken
--- one by one.
-use Rattle.std.proofs.Common.{◌≡◌, ℕ, ◌+◌, ◌<◌, ◌≤◌, Bool, true, false, not, ◌&&◌, ◌||◌, List, [], ◌∷◌, ◌++◌, length, get_or, take, drop, sym, refl, ap, ◌∙◌, arith, length-append, length-drop}
-use Rattle.std.proofs.lemmas.List.{drop-drop, get_or-drop, take_at, drop_at}
+-- Notes of declared names in words: the first note; and lists of names that are taken one by one.
+use Rattle.std.proofs.Common.{◌≡◌, ℕ, ◌≤◌, Bool, true, false, not, ◌&&◌, ◌||◌, List, [], ◌∷◌, length, get_or, drop, Some, sym, refl, ap, ◌∙◌, arith, length-append}
 use Rattle.std.proofs.lemmas.Bool.{or_left}
 use Rattle.syntax.specs.Surface.{Name, same, listed, once}
-use Rattle.syntax.specs.Declaring.{Note, note_words}
+use Rattle.syntax.specs.Declaring.{Note, note_words, NoteFirst, ReadsNote}
+use Rattle.syntax.specs.declared.limits.NoteRead.{NoteRead}
 
-module _ (ws : List ℕ) (at : ℕ) (n : Note) (ns : List Note) (e : drop at ws ≡ note_words (n ∷ ns)) where
-  -- A note and what is behind it are within the words.
-  pub note_length : at + (2 + (length n.name + length (note_words ns))) ≡ length ws
-  note_length = omega (arith, ap length e, length-drop at ws, length-append n.name (note_words ns))
+-- The first note's name is within the words.
+pub note_room : (ws r s : List ℕ) (left len : ℕ) (ns : List Note) → ws ≡ note_words ns → ws ≡ left ∷ r → r ≡ len ∷ s → len ≤ length s
+note_room ws r s left len [] e p q = absurd (let z : ⊥ = omega (arith, ap length e, ap length p) in z)
+note_room ws r s left len (n ∷ ns) e p q =
+    let w = sym (p ∙ ap (λ (z : List ℕ). left ∷ z) q) ∙ e in
+    omega (arith, ap (λ (z : List ℕ). get_or z 1 0) w, ap (λ (z : List ℕ). length (drop 2 z)) w, length-append n.name (note_words ns))
 
-  -- How long its name is, the name, and the notes behind it.
-  pub note_size : get_or ws (at + 1) 0 ≡ length n.name
-  note_size = sym (get_or-drop at ws 1 0) ∙ ap (λ (l : List ℕ). get_or l 1 0) e
-
-  behind_name : drop (at + 2) ws ≡ n.name ++ note_words ns
-  behind_name = sym (drop-drop 2 at ws) ∙ ap (drop 2) e
-
-  pub note_name : (k : ℕ) → k ≡ length n.name → take k (drop (at + 2) ws) ≡ n.name
-  note_name k p = ap (take k) behind_name ∙ take_at n.name (note_words ns) k (sym p)
-
-  pub note_next : (k : ℕ) → k ≡ length n.name → drop (at + 2 + k) ws ≡ note_words ns
-  note_next k p = sym (drop-drop k (at + 2) ws) ∙ ap (drop k) behind_name ∙ drop_at n.name (note_words ns) k (sym p)
-
--- Notes that still have words have a first one.
-pub first_note : (ws : List ℕ) (at : ℕ) (ms : List Note) → at < length ws → drop at ws ≡ note_words ms → (n : Note) × (ns : List Note) × (ms ≡ n ∷ ns)
-first_note ws at [] h e = absurd (let z : ⊥ = omega (arith, ap length e, length-drop at ws) in z)
-first_note ws at (n ∷ ns) h e = (n, ns, refl)
-
-pub no_note : (ws : List ℕ) (at : ℕ) (ms : List Note) → length ws ≤ at → drop at ws ≡ note_words ms → ms ≡ []
-no_note ws at [] h e = refl
-no_note ws at (n ∷ ns) h e = absurd (let z : ⊥ = omega (arith, ap length e, length-drop at ws) in z)
+-- A note is found.
+pub reads_some : (ns : List Note) (r : NoteRead) → ReadsNote ns (Some r) → (n : Note) × (ms : List Note) × (ns ≡ n ∷ ms) × NoteFirst n ms r
+reads_some [] r d = absurd d
+reads_some (n ∷ ns) r d = (n, ns, refl, d)
 
 -- A name is among those listed if it is the first or among the others.
 pub listed_first : (x y : Name) (ys : List Name) → same x y ≡ true → listed x (y ∷ ys) ≡ true

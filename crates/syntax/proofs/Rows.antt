@@ -1,15 +1,16 @@
 -- A term used on arguments that are read one after the other: the arguments so far, in the readers, in the words and in the
 -- stage; and the term at the end, when the tags of the uses are put before them.
-use Rattle.std.proofs.Common.{◌≡◌, ℕ, zero, suc, ◌+◌, ◌*◌, ◌<◌, ◌≤◌, max, List, [], ◌∷◌, ◌++◌, length, take, drop, replicate, sym, refl, ap, ◌∙◌, append_assoc, append-nil, arith, length-append}
+use Rattle.std.proofs.Common.{◌≡◌, ℕ, zero, suc, ◌+◌, ◌*◌, ◌<◌, ◌≤◌, max, List, [], ◌∷◌, ◌++◌, length, replicate, sym, refl, ap, ◌∙◌, append_assoc, append-nil, subst as tr, arith, Bor, length-append}
 use mathlib.Core.Option.{Option, some, none}
 use lib.ListN.{length-replicate}
 use Rattle.syntax.specs.Surface.{Name, Expr, e_app, expr_stage}
 use Rattle.syntax.specs.Tokens.{tokens}
 use Rattle.syntax.specs.Reader.{Readers, readers}
-use Rattle.syntax.specs.Writing.{Appends}
+use Rattle.syntax.specs.Writing.{Appends, Inserts}
 use Rattle.syntax.specs.Parsing.{Done, expr_words, lower}
+use Rattle.syntax.specs.declared.write.Writer.{Writer}
 use Rattle.syntax.specs.declared.reading.Read.{Read}
-use Rattle.syntax.proofs.Appending.{append_none, append_to, append_then, append_as, append_before}
+use Rattle.syntax.proofs.Appending.{append_none, append_then, append_as, append_before}
 use Rattle.syntax.proofs.TreeWords.{expr_then}
 
 -- A term used on several.
@@ -54,23 +55,23 @@ apps-stage f [] = omega arith
 apps-stage f (a ∷ as₁) = apps-stage (e_app f a) as₁ ∙ (let z : max (max (expr_stage f) (expr_stage a)) (args-stage as₁) ≡ max (expr_stage f) (max (expr_stage a) (args-stage as₁)) = omega arith in z)
 
 -- Some arguments were read from the bytes bs₁, with which s goes on from any term; the bytes bs are left.
-pub record Row (s : ℕ → Expr → List Name → Option (Expr × List Name)) (bs₁ before : List ℕ) (len : ℕ) (after bs : List ℕ) (end stage₁ stage count : ℕ) : Type 0 where
+pub record Row (s : ℕ → Expr → List Name → Option (Expr × List Name)) (bs₁ : List ℕ) (before after : Writer) (bs : List ℕ) (stage₁ stage count : ℕ) : Type 0 where
   pub args : List Expr
   pub links : (h : Expr) (n : ℕ) → length (tokens bs₁) < n → (m : ℕ) × (length (tokens bs) < m) × (s n h (tokens bs₁) ≡ s m (e_apps h args) (tokens bs))
-  pub wrote : Appends before len (args_words args) after end
+  pub wrote : Appends before (args_words args) after
   pub stages : stage ≡ max stage₁ (args-stage args)
   pub counts : count ≡ length args
   pub fewer : length (tokens bs) ≤ length (tokens bs₁)
-  pub room : end + (count + 4 * length bs) ≤ len + 4 * length bs₁
+  pub room : after.len + (count + 4 * length bs) ≤ before.len + 4 * length bs₁
 
 module _ (s : ℕ → Expr → List Name → Option (Expr × List Name)) where
   -- No argument yet.
-  pub row_start : (bs before : List ℕ) (len stage : ℕ) → Row s bs before len before bs len stage stage 0
-  row_start bs before len stage =
+  pub row_start : (bs : List ℕ) (before : Writer) (stage : ℕ) → Row s bs before before bs stage stage 0
+  row_start bs before stage =
       record {
         args = [];
         links = λ h n l. (n, l, refl);
-        wrote = append_to before before len (len + 0) len [] (omega arith) (append_none before len);
+        wrote = append_none before;
         stages = omega arith;
         counts = refl;
         fewer = omega arith;
@@ -83,41 +84,45 @@ module _ (s : ℕ → Expr → List Name → Option (Expr × List Name)) where
   next_link ts₀ ts₁ ts₂ g h a n zero l e u o = absurd (let z : ⊥ = omega arith in z)
   next_link ts₀ ts₁ ts₂ g h a n (suc m) l e u o = (m, omega arith, e ∙ o m (omega arith))
 
-  pub row_more : (bs₁ before : List ℕ) (len : ℕ) (o o₁ bs bs₂ : List ℕ) (end end₁ stage₁ stage stage₂ stage₃ count : ℕ) (a : Expr)
-      → Row s bs₁ before len o bs end stage₁ stage count
+  pub row_more : (bs₁ : List ℕ) (before o o₁ : Writer) (bs bs₂ : List ℕ) (stage₁ stage stage₂ stage₃ count : ℕ) (a : Expr)
+      → Row s bs₁ before o bs stage₁ stage count
       → ((h : Expr) (k : ℕ) → length (tokens bs) ≤ k → s (suc k) h (tokens bs) ≡ s k (e_app h a) (tokens bs₂))
-      → Appends o end (expr_words a) o₁ end₁ → stage₂ ≡ expr_stage a → stage₃ ≡ max stage stage₂ → 1 + length (tokens bs₂) ≤ length (tokens bs) → end₁ + (1 + 4 * length bs₂) ≤ end + 4 * length bs
-      → Row s bs₁ before len o₁ bs₂ end₁ stage₁ stage₃ (count + 1)
-  row_more bs₁ before len o o₁ bs bs₂ end end₁ stage₁ stage stage₂ stage₃ count a c e w st st₃ l r =
+      → Appends o (expr_words a) o₁ → stage₂ ≡ expr_stage a → stage₃ ≡ max stage stage₂ → 1 + length (tokens bs₂) ≤ length (tokens bs) → o₁.len + (1 + 4 * length bs₂) ≤ o.len + 4 * length bs
+      → Row s bs₁ before o₁ bs₂ stage₁ stage₃ (count + 1)
+  row_more bs₁ before o o₁ bs bs₂ stage₁ stage stage₂ stage₃ count a c e w st st₃ l r =
       record {
         args = c.args ++ (a ∷ []);
         links = λ g n h. let k = c.links g n h in let j = next_link (tokens bs₁) (tokens bs) (tokens bs₂) g (e_apps g c.args) a n k.0 k.1 k.2 l (e (e_apps g c.args)) in
             (j.0, j.1, j.2 ∙ ap (λ x. s j.0 x (tokens bs₂)) (apps_last g c.args a));
-        wrote = append_as _ _ _ _ _ _ (args_last c.args a) (append_then before o o₁ len end end₁ _ _ c.wrote w);
+        wrote = append_as (args_last c.args a) (append_then c.wrote w);
         stages = (let z : stage₃ ≡ max stage₁ (args-stage (c.args ++ (a ∷ []))) = omega (arith, c.stages, st, st₃, stage_last c.args a) in z);
         counts = omega (arith, c.counts, length-append c.args (a ∷ []));
         fewer = omega (arith, c.fewer, l);
         room = omega (arith, c.room, r);
       }
 
+  -- The same bytes under another name.
+  pub row_as : (bs₁ : List ℕ) (before o : Writer) (r p : Bor (List ℕ)) (stage₁ stage count : ℕ) → p ≡ r → Row s bs₁ before o r.now stage₁ stage count → Row s bs₁ before o p.now stage₁ stage count
+  row_as bs₁ before o r p stage₁ stage count e = tr (λ (q : Bor (List ℕ)). Row s bs₁ before o q.now stage₁ stage count) (sym e)
+
   -- No argument is read where one must be: nothing is found.
-  pub row_none : (bs₁ before : List ℕ) (len : ℕ) (o bs : List ℕ) (end stage₁ stage count : ℕ) → Row s bs₁ before len o bs end stage₁ stage count
+  pub row_none : (bs₁ : List ℕ) (before o : Writer) (bs : List ℕ) (stage₁ stage count : ℕ) → Row s bs₁ before o bs stage₁ stage count
       → ((h : Expr) (k : ℕ) → length (tokens bs) ≤ k → s (suc k) h (tokens bs) ≡ none) → (h : Expr) (n : ℕ) → length (tokens bs₁) < n → s n h (tokens bs₁) ≡ none
-  row_none bs₁ before len o bs end stage₁ stage count c e h n l = let k = c.links h n l in k.2 ∙ at_suc k.0 k.1
+  row_none bs₁ before o bs stage₁ stage count c e h n l = let k = c.links h n l in k.2 ∙ at_suc k.0 k.1
     where
       at_suc : (m : ℕ) → length (tokens bs) < m → s m (e_apps h c.args) (tokens bs) ≡ none
       at_suc zero l = absurd (let z : ⊥ = omega arith in z)
       at_suc (suc m) l = e (e_apps h c.args) m (omega arith)
 
   -- No more arguments behind a first term: the tags of the uses are put before the words.
-  pub row_end : (f₁ f : ℕ → List Name → Option (Expr × List Name)) (ts₀ : List Name) (budget : ℕ) (o₀ : List ℕ) (len : ℕ) (o₁ : List ℕ) (q : Read) (o o₂ bs : List ℕ) (end stage count : ℕ) (p : Read)
-      → len ≤ length o₀ → (d : Done f₁ expr_words expr_stage 1 ts₀ budget o₀ len o₁ q) → Row s q.rest.now o₁ q.len o bs end q.stage stage count
+  pub row_end : (f₁ f : ℕ → List Name → Option (Expr × List Name)) (ts₀ : List Name) (budget : ℕ) (o₀ o₁ : Writer) (q : Read) (o o₂ : Writer) (bs : List ℕ) (stage count : ℕ) (p : Read)
+      → o₀.len ≤ length o₀.words.now → (d : Done f₁ expr_words expr_stage 1 ts₀ budget o₀ o₁ q) → Row s q.rest.now o₁ o bs q.stage stage count
       → p.rest.now ≡ bs → p.stage ≡ stage
       → ((n : ℕ) → length ts₀ < n → (m : ℕ) × (length (tokens q.rest.now) < m) × (f n ts₀ ≡ s m d.value (tokens q.rest.now)))
       → ((h : Expr) (k : ℕ) → s (suc k) h (tokens bs) ≡ some (h, tokens bs))
-      → Appends o len (replicate count 7 ++ drop len (take end o)) o₂ p.len
-      → Done f expr_words expr_stage 1 ts₀ budget o₀ len o₂ p
-  row_end f₁ f ts₀ budget o₀ len o₁ q o o₂ bs end stage count p l₁ d c e₁ e₂ g last w =
+      → Inserts o o₀.len (replicate count 7) o₂
+      → Done f expr_words expr_stage 1 ts₀ budget o₀ o₂ p
+  row_end f₁ f ts₀ budget o₀ o₁ q o o₂ bs stage count p l₁ d c e₁ e₂ g last w =
       record {
         value = e_apps d.value c.args;
         reads = λ n h. let j = g n h in let k = c.links d.value j.0 j.1 in
@@ -128,8 +133,8 @@ module _ (s : ℕ → Expr → List Name → Option (Expr × List Name)) where
         room = omega (arith, d.room, c.room, whole.ends, both.ends, ap length e₁, lens);
       }
     where
-      both : Appends o₀ len (expr_words d.value ++ args_words c.args) o end
-      both = append_then o₀ o₁ o len q.len end _ _ d.wrote c.wrote
+      both : Appends o₀ (expr_words d.value ++ args_words c.args) o
+      both = append_then d.wrote c.wrote
 
       at_suc : (m : ℕ) → length (tokens bs) < m → s m (e_apps d.value c.args) (tokens bs) ≡ some (e_apps d.value c.args, tokens bs)
       at_suc zero h = absurd (let z : ⊥ = omega arith in z)
@@ -141,8 +146,8 @@ module _ (s : ℕ → Expr → List Name → Option (Expr × List Name)) where
       lens : length (expr_words (e_apps d.value c.args)) ≡ count + length (expr_words d.value ++ args_words c.args)
       lens = ap length (sym is_apps) ∙ length-append (replicate count 7) _ ∙ ap (λ (k : ℕ). k + length (expr_words d.value ++ args_words c.args)) (length-replicate count 7)
 
-      whole : Appends o₀ len (expr_words (e_apps d.value c.args)) o₂ p.len
-      whole = append_as _ _ _ _ _ _ is_apps (append_before o₀ o o₂ len end p.len _ (replicate count 7) l₁ both w)
+      whole : Appends o₀ (expr_words (e_apps d.value c.args)) o₂
+      whole = append_as is_apps (append_before (replicate count 7) l₁ both w)
 
 -- Where the call of the first term goes one level down.
 pub lower_link : (g : Readers → List Name → Option (Expr × List Name)) (s : ℕ → Expr → List Name → Option (Expr × List Name)) (ts₀ ts : List Name) (a : Expr)

@@ -1,7 +1,9 @@
 -- Tests: one that passes is true and one that fails is false, and so through their and and or;
 -- names for which same passes are equal.
-use Rattle.std.proofs.Common.{◌≡◌, Bool, true, false, not, ◌&&◌, ◌||◌, T, eqb, [], ◌∷◌, refl, ap₂, eqb→eq}
-use Rattle.syntax.specs.Surface.{Name, same}
+use Rattle.std.proofs.Common.{◌≡◌, Bool, true, false, not, ◌&&◌, ◌||◌, T, eqb, List, [], ◌∷◌, refl, ap, ◌∙◌, ap₂, eqb→eq, arith, ℕ}
+use Rattle.std.specs.Cmp.Lexicographic.{pointwise}
+use Rattle.std.specs.List.{list_any}
+use Rattle.syntax.specs.Surface.{Name, same, listed}
 
 pub to_true : (b : Bool) → T b → b ≡ true
 to_true true t = refl
@@ -28,3 +30,24 @@ same_is [] [] t = refl
 same_is [] (y ∷ ys) t = absurd t
 same_is (x ∷ xs) [] t = absurd t
 same_is (x ∷ xs) (y ∷ ys) t = ap₂ {C = Name} ◌∷◌ (eqb→eq x y (and_left _ _ t)) (same_is xs ys (and_right (eqb x y) _ t))
+
+-- What == says of two slices of numbers is what same says.
+pub pointwise_same : (x y : Name) → pointwise eqb x y ≡ same x y
+pointwise_same [] [] = refl
+pointwise_same [] (y ∷ ys) = refl
+pointwise_same (x ∷ xs) [] = refl
+pointwise_same (x ∷ xs) (y ∷ ys) = ap (λ (b : Bool). eqb x y && b) (pointwise_same xs ys)
+
+eqb_sym : (x y : ℕ) → eqb x y ≡ eqb y x
+eqb_sym x y = grind arith
+
+same_sym : (x y : Name) → same x y ≡ same y x
+same_sym [] [] = refl
+same_sym [] (y ∷ ys) = refl
+same_sym (x ∷ xs) [] = refl
+same_sym (x ∷ xs) (y ∷ ys) = ap₂ (λ (a b : Bool). a && b) (eqb_sym x y) (same_sym xs ys)
+
+-- What contains says of a table of words is what listed says.
+pub any_listed : (x : Name) (ks : List Name) → list_any (λ k. pointwise eqb k x) ks ≡ listed x ks
+any_listed x [] = refl
+any_listed x (k ∷ ks) = ap₂ (λ (a b : Bool). a || b) (pointwise_same k x ∙ same_sym k x) (any_listed x ks)

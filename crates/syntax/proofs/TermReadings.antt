@@ -6,9 +6,10 @@ use Rattle.syntax.specs.Surface.{Name, same, Expr}
 use Rattle.syntax.specs.Tokens.{tokens}
 use Rattle.syntax.specs.Grammar.{t_lp, t_rp, t_semi, t_to, t_at, t_hole, k_type, k_by, k_fun}
 use Rattle.syntax.specs.Reader.{bind, then, eat, Readers, readers, read_term, read_script, read_atom, read_arrow, read_binder, read_exact, read_apply}
-use Rattle.syntax.specs.Parsing.{Done, FindsNone, Opened, Opens, Links, Frame, f_pi, wrap, plug, lower, level, read_bound, read_uses, read_leaf, read_block, expr_words}
+use Rattle.syntax.specs.Parsing.{Done, FindsNone, Follows, Opened, Opens, Links, Frame, f_pi, wrap, plug, lower, level, read_bound, read_uses, read_leaf, read_block, expr_words}
 use Rattle.syntax.specs.Surface.{expr_stage, Param}
 use Rattle.syntax.specs.declared.problem.Stop.{Stop}
+use Rattle.syntax.specs.declared.write.Writer.{Writer}
 use Rattle.syntax.specs.declared.reading.Read.{Read}
 use Rattle.syntax.specs.declared.reading.Link.{Link}
 use Rattle.syntax.specs.declared.reading.Link.TheVariants.{More, Last}
@@ -39,50 +40,57 @@ pub lower-some : {A : Type 0} (g : Readers → List Name → Option A) (ts : Lis
 lower-some g ts x e zero h = absurd (let z : ⊥ = omega arith in z)
 lower-some g ts x e (suc m) h = e m (omega arith)
 
+pub lower_is : {A : Type 0} (f : ℕ → List Name → Option A) (g : Readers → List Name → Option A) (ts : List Name) → ((m : ℕ) → g (readers m) ts ≡ f (suc m) ts) → (n : ℕ) → length ts < n → lower g n ts ≡ f n ts
+lower_is f g ts e zero h = absurd (let z : ⊥ = omega arith in z)
+lower_is f g ts e (suc m) h = e m
+
 -- Behind a word: what the reader g₁ does with the tokens us, the reader g₂ does with ts.
 pub none-up : {A : Type 0} (g₁ g₂ : Readers → List Name → Option A) (ts us : List Name) → ((r : Readers) → g₂ r ts ≡ g₁ r us) → length us < length ts → FindsNone (level g₁) us → FindsNone (lower g₂) ts
 none-up g₁ g₂ ts us e l d = lower-none g₂ ts (λ m h. e (readers m) ∙ d m (omega arith))
 
-pub done_up : (g₁ g₂ : Readers → List Name → Option (Expr × List Name)) (ts us : List Name) (b₁ b₂ : ℕ) (before : List ℕ) (len : ℕ) (after : List ℕ) (q : Read) → ((r : Readers) → g₂ r ts ≡ g₁ r us) → length us < length ts → b₁ ≤ b₂
-    → Done (level g₁) expr_words expr_stage 1 us b₁ before len after q → Done (lower g₂) expr_words expr_stage 1 ts b₂ before len after q
-done_up g₁ g₂ ts us b₁ b₂ before len after q e l k d =
+pub done_up : (g₁ g₂ : Readers → List Name → Option (Expr × List Name)) (ts us : List Name) (b₁ b₂ : ℕ) (before after : Writer) (q : Read) → ((r : Readers) → g₂ r ts ≡ g₁ r us) → length us < length ts → b₁ ≤ b₂
+    → Done (level g₁) expr_words expr_stage 1 us b₁ before after q → Done (lower g₂) expr_words expr_stage 1 ts b₂ before after q
+done_up g₁ g₂ ts us b₁ b₂ before after q e l k d =
     record { value = d.value; reads = lower-some g₂ ts _ (λ m h. e (readers m) ∙ d.reads m (omega arith)); wrote = d.wrote; stage = d.stage; fewer = omega (arith, d.fewer); room = omega (arith, d.room) }
 
-pub opened_up : (g₁ g₂ : Readers → List Name → Option (Expr × List Name)) (s : ℕ → List Name → Option (Expr × List Name)) (ts us : List Name) (b₁ b₂ : ℕ) (before : List ℕ) (len : ℕ) (after : List ℕ) (q : Read)
-    → ((r : Readers) → g₂ r ts ≡ g₁ r us) → length us < length ts → b₁ ≤ b₂ → Opened 1 g₁ s us b₁ before len after q → Opened 0 g₂ s ts b₂ before len after q
-opened_up g₁ g₂ s ts us b₁ b₂ before len after q e l k d =
+pub opened_up : (g₁ g₂ : Readers → List Name → Option (Expr × List Name)) (s : ℕ → List Name → Option (Expr × List Name)) (ts us : List Name) (b₁ b₂ : ℕ) (before after : Writer) (q : Read)
+    → ((r : Readers) → g₂ r ts ≡ g₁ r us) → length us < length ts → b₁ ≤ b₂ → Opened 1 g₁ s us b₁ before after q → Opened 0 g₂ s ts b₂ before after q
+opened_up g₁ g₂ s ts us b₁ b₂ before after q e l k d =
     record { frame = d.frame; opens = λ n h. e (readers n) ∙ d.opens n (omega arith); wrote = d.wrote; stage = d.stage; fewer = omega (arith, d.fewer); room = omega (arith, d.room) }
 
--- Of the same tokens.
-pub links_as : (g₁ g₂ : Readers → List Name → Option (Expr × List Name)) (s : ℕ → List Name → Option (Expr × List Name)) (bs before : List ℕ) (len : ℕ) (after : List ℕ) (l : Link)
-    → ((r : Readers) → g₂ r (tokens bs) ≡ g₁ r (tokens bs)) → Links g₁ s bs before len after (Ok l) → Links g₂ s bs before len after (Ok l)
-links_as g₁ g₂ s bs before len after (More q) e d =
-    record { frame = d.frame; opens = λ n h. e (readers n) ∙ d.opens n h; wrote = d.wrote; stage = d.stage; fewer = d.fewer; room = d.room }
-links_as g₁ g₂ s bs before len after (Last q) e d =
-    record { value = d.value; reads = lower-some g₂ (tokens bs) _ (λ m h. e (readers m) ∙ d.reads (suc m) (omega arith)); wrote = d.wrote; stage = d.stage; fewer = d.fewer; room = d.room }
+pub follows_up : (g₁ g₂ : Readers → List Name → Option (Expr × List Name)) (ts us : List Name) (b₁ b₂ : ℕ) (before after : Writer) (r : Result Read Stop) → ((r : Readers) → g₂ r ts ≡ g₁ r us) → length us < length ts → b₁ ≤ b₂
+    → Follows (level g₁) expr_words expr_stage 1 us b₁ before after r → Follows (lower g₂) expr_words expr_stage 1 ts b₂ before after r
+follows_up g₁ g₂ ts us b₁ b₂ before after (Ok q) e l k d = done_up g₁ g₂ ts us b₁ b₂ before after q e l k d
+follows_up g₁ g₂ ts us b₁ b₂ before after (Err x) e l k d = none-up g₁ g₂ ts us e l d
 
-pub none_as : {A : Type 0} (g₁ g₂ : Readers → List Name → Option A) (ts : List Name) → ((r : Readers) → g₂ r ts ≡ g₁ r ts) → FindsNone (lower g₁) ts → FindsNone (lower g₂) ts
-none_as g₁ g₂ ts e d = lower-none g₂ ts (λ m h. e (readers m) ∙ d (suc m) (omega arith))
+-- Of the same tokens.
+pub links_as : (g₁ g₂ : Readers → List Name → Option (Expr × List Name)) (s : ℕ → List Name → Option (Expr × List Name)) (bs : List ℕ) (before after : Writer) (r : Result Link Stop)
+    → ((r : Readers) → g₂ r (tokens bs) ≡ g₁ r (tokens bs)) → Links g₁ s bs before after r → Links g₂ s bs before after r
+links_as g₁ g₂ s bs before after (Ok (More q)) e d =
+    record { frame = d.frame; opens = λ n h. e (readers n) ∙ d.opens n h; wrote = d.wrote; stage = d.stage; fewer = d.fewer; room = d.room }
+links_as g₁ g₂ s bs before after (Ok (Last q)) e d =
+    record { value = d.value; reads = lower-some g₂ (tokens bs) _ (λ m h. e (readers m) ∙ d.reads (suc m) (omega arith)); wrote = d.wrote; stage = d.stage; fewer = d.fewer; room = d.room }
+links_as g₁ g₂ s bs before after (Err x) e d = lower-none g₂ (tokens bs) (λ m h. e (readers m) ∙ d (suc m) (omega arith))
 
 -- What a link is.
-pub links_more : (g : Readers → List Name → Option (Expr × List Name)) (s : ℕ → List Name → Option (Expr × List Name)) (bs before : List ℕ) (len : ℕ) (after : List ℕ) (l : Link) (q : Read)
-    → l ≡ More q → Links g s bs before len after (Ok l) → Opened 0 g s (tokens bs) (4 * length bs) before len after q
-links_more g s bs before len after l q e d = tr (λ x. Links g s bs before len after (Ok x)) e d
+pub links_more : (g : Readers → List Name → Option (Expr × List Name)) (s : ℕ → List Name → Option (Expr × List Name)) (bs : List ℕ) (before after : Writer) (l : Link) (q : Read)
+    → l ≡ More q → Links g s bs before after (Ok l) → Opened 0 g s (tokens bs) (4 * length bs) before after q
+links_more g s bs before after l q e d = tr (λ x. Links g s bs before after (Ok x)) e d
 
-pub links_last : (g : Readers → List Name → Option (Expr × List Name)) (s : ℕ → List Name → Option (Expr × List Name)) (bs before : List ℕ) (len : ℕ) (after : List ℕ) (l : Link) (q : Read)
-    → l ≡ Last q → Links g s bs before len after (Ok l) → Done (lower g) expr_words expr_stage 1 (tokens bs) (4 * length bs) before len after q
-links_last g s bs before len after l q e d = tr (λ x. Links g s bs before len after (Ok x)) e d
+pub links_last : (g : Readers → List Name → Option (Expr × List Name)) (s : ℕ → List Name → Option (Expr × List Name)) (bs : List ℕ) (before after : Writer) (l : Link) (q : Read)
+    → l ≡ Last q → Links g s bs before after (Ok l) → Done (lower g) expr_words expr_stage 1 (tokens bs) (4 * length bs) before after q
+links_last g s bs before after l q e d = tr (λ x. Links g s bs before after (Ok x)) e d
 
 -- An error says that nothing is found.
-pub links_fail : (g : Readers → List Name → Option (Expr × List Name)) (s : ℕ → List Name → Option (Expr × List Name)) (bs before : List ℕ) (len : ℕ) (after : List ℕ) (r : Result Link Stop)
-    → is_err r ≡ true → FindsNone (lower g) (tokens bs) → Links g s bs before len after r
-links_fail g s bs before len after (Ok l) e d = absurd (false≢true e)
-links_fail g s bs before len after (Err x) e d = d
+pub links_fail : (g : Readers → List Name → Option (Expr × List Name)) (s : ℕ → List Name → Option (Expr × List Name)) (bs : List ℕ) (before after : Writer) (r : Result Link Stop)
+    → is_err r ≡ true → FindsNone (lower g) (tokens bs) → Links g s bs before after r
+links_fail g s bs before after (Ok l) e d = absurd (false≢true e)
+links_fail g s bs before after (Err x) e d = d
 
-pub opens_fail : (g : Readers → List Name → Option (Expr × List Name)) (s : ℕ → List Name → Option (Expr × List Name)) (ts : List Name) (budget : ℕ) (before : List ℕ) (len : ℕ) (after : List ℕ) (r : Result Read Stop)
-    → is_err r ≡ true → FindsNone (level g) ts → Opens g s ts budget before len after r
-opens_fail g s ts budget before len after (Ok q) e d = absurd (false≢true e)
-opens_fail g s ts budget before len after (Err x) e d = d
+pub opens_fail : (g : Readers → List Name → Option (Expr × List Name)) (s : ℕ → List Name → Option (Expr × List Name)) (ts : List Name) (budget : ℕ) (before after : Writer) (r : Result Read Stop)
+    → is_err r ≡ true → FindsNone (level g) ts → Opens g s ts budget before after r
+opens_fail g s ts budget before after (Ok q) e d = absurd (false≢true e)
+opens_fail g s ts budget before after (Err x) e d = d
 
 -- A type in brackets, and what must come behind it.
 pub bound_then : {C : Type 0} (r : Readers) (ts : List Name) (k : Name) (f : Expr → List Name → Option C)
@@ -157,9 +165,9 @@ atom_block r ts us e d =
     rw (e, eat_other k_by t_at ts us d refl, eat_other k_by k_type ts us d refl, eat_other k_by t_hole ts us d refl, d) refl
 
 -- A parameter's type and its closing bracket.
-pub bound_param : (r : Readers) (ts us : List Name) (x : Name) (a : Expr) → read_bound r ts ≡ some (a, us)
-    → then {C = Param × List Name} (r.term ts) (λ b vs. bind (eat t_rp vs) (λ ws. some (record { name = x; type = b }, ws))) ≡ some (record { name = x; type = a }, us)
-bound_param r ts us x a e = parts (r.term ts) ∙ then_is {C = Param × List Name} (read_bound r ts) (λ b vs. some (record { name = x; type = b }, vs)) e refl
+pub bound_parts : (r : Readers) (ts : List Name) (x : Name)
+    → then {C = Param × List Name} (r.term ts) (λ b vs. bind (eat t_rp vs) (λ ws. some (record { name = x; type = b }, ws))) ≡ then (read_bound r ts) (λ b vs. some (record { name = x; type = b }, vs))
+bound_parts r ts x = parts (r.term ts)
   where
     inner : (b : Expr) (o : Option (List Name)) → bind {C = Param × List Name} o (λ ws. some (record { name = x; type = b }, ws)) ≡ then (bind o (λ ws. some (b, ws))) (λ b vs. some (record { name = x; type = b }, vs))
     inner b none = refl

@@ -11,9 +11,10 @@ use Rattle.syntax.specs.Parsing.{FindsNone, expr_words}
 use Rattle.syntax.specs.Writing.{Appends}
 use Rattle.syntax.specs.declared.problem.Stop.{Stop}
 use Rattle.syntax.specs.declared.scan.Number.{Number}
-use Rattle.syntax.specs.declared.declarations.Progress.{Progress}
-use Rattle.syntax.specs.declared.declarations.Whole.{Whole}
+use Rattle.syntax.specs.declared.reading.Read.{Read}
+use Rattle.syntax.specs.declared.write.Writer.{Writer}
 use Rattle.syntax.specs.declared.parse.Parsed.{Parsed}
+use Rattle.syntax.specs.declared.limits.NoteRead.{NoteRead}
 
 -- hide n, or nothing.
 pub record HideAt (bs : List ℕ) (n : Number) : Type 0 where
@@ -59,22 +60,22 @@ note_names (n ∷ ns) = n.name ∷ note_names ns
 -- A function has read a value that declares names: as Done, with the names noted behind those that stand. Behind a word that has
 -- been read already, d is 1, else 0.
 pub record Declared {A : Type 0} (d : ℕ) (f : ℕ → List Name → Maybe (A × List Name)) (words : A → List ℕ) (names : A → List Name) (level : A → ℕ)
-    (bs before : List ℕ) (len : ℕ) (after before₂ : List ℕ) (used : ℕ) (after₂ : List ℕ) (q : Progress) : Type 0 where
+    (bs : List ℕ) (before after before₂ after₂ : Writer) (q : Read) : Type 0 where
   pub value : A
   pub reads : (n : ℕ) → d + length (tokens bs) ≤ n → f n (tokens bs) ≡ some (value, tokens q.rest.now)
-  pub wrote : Appends before len (words value) after q.len
+  pub wrote : Appends before (words value) after
   pub notes : List Note
   pub named : note_names notes ≡ names value
-  pub noted : Appends before₂ used (note_words notes) after₂ q.used
+  pub noted : Appends before₂ (note_words notes) after₂
   pub stage : q.stage ≡ level value
   pub fewer : 1 + length (tokens q.rest.now) ≤ length (tokens bs)
-  pub room : q.len + 4 * length q.rest.now ≤ len + 4 * length bs
-  pub note_room : q.used + 3 * length q.rest.now ≤ used + 3 * length bs
+  pub room : after.len + 4 * length q.rest.now ≤ before.len + 4 * length bs
+  pub note_room : after₂.len + 3 * length q.rest.now ≤ before₂.len + 3 * length bs
 
 abbrev pub Declares : {A : Type 0} → ℕ → (ℕ → List Name → Maybe (A × List Name)) → (A → List ℕ) → (A → List Name) → (A → ℕ)
-    → List ℕ → List ℕ → ℕ → List ℕ → List ℕ → ℕ → List ℕ → Result Progress Stop → Type 0
-Declares d f words names level bs before len after before₂ used after₂ (Ok q) = Declared d f words names level bs before len after before₂ used after₂ q
-Declares d f words names level bs before len after before₂ used after₂ (Err s) = (n : ℕ) → d + length (tokens bs) ≤ n → f n (tokens bs) ≡ none
+    → List ℕ → Writer → Writer → Writer → Writer → Result Read Stop → Type 0
+Declares d f words names level bs before after before₂ after₂ (Ok q) = Declared d f words names level bs before after before₂ after₂ q
+Declares d f words names level bs before after before₂ after₂ (Err s) = (n : ℕ) → d + length (tokens bs) ≤ n → f n (tokens bs) ≡ none
 
 -- A name and what it hides.
 pub record Head : Type 0 where
@@ -118,21 +119,22 @@ abbrev pub read_all : ℕ → List Name → Maybe (List Decl × List Name)
 read_all n ts = bind (read_decls n ts) (λ ds. some (ds, []))
 
 -- All declarations of the bytes were read and written, their names noted and counted; or there are none that they say.
-pub record AllDeclared (bs after after₂ : List ℕ) (q : Whole) : Type 0 where
+pub record AllDeclared (bs : List ℕ) (before after before₂ after₂ : Writer) (q : Parsed) : Type 0 where
   pub decls : List Decl
   pub reads : (n : ℕ) → length (tokens bs) < n → read_decls n (tokens bs) ≡ some decls
-  pub words : take q.len after ≡ decls_words decls
+  pub wrote : Appends before (decls_words decls) after
   pub notes : List Note
   pub named : note_names notes ≡ names_of decls
-  pub noted : take q.used after₂ ≡ note_words notes
+  pub noted : Appends before₂ (note_words notes) after₂
+  pub words : q.words ≡ after.len
   pub stages : q.stage ≡ stage decls
   pub counts : q.count ≡ length decls
-  pub fits : q.len ≤ length after
-  pub note_fits : q.used ≤ length after₂
+  pub fits : after.len ≤ length after.words.now
+  pub note_fits : after₂.len ≤ length after₂.words.now
 
-abbrev pub DeclaresAll : List ℕ → List ℕ → List ℕ → Result Whole Stop → Type 0
-DeclaresAll bs after after₂ (Ok q) = AllDeclared bs after after₂ q
-DeclaresAll bs after after₂ (Err s) = FindsNone read_decls (tokens bs)
+abbrev pub DeclaresAll : List ℕ → Writer → Writer → Writer → Writer → Result Parsed Stop → Type 0
+DeclaresAll bs before after before₂ after₂ (Ok q) = AllDeclared bs before after before₂ after₂ q
+DeclaresAll bs before after before₂ after₂ (Err s) = FindsNone read_decls (tokens bs)
 
 -- The row of declarations that the text says is written and counted, or there is none.
 pub record ParsedPost (t : List ℕ) (after : List ℕ) (p : Parsed) : Type 0 where
@@ -151,6 +153,18 @@ Parses t after (Err s) = (ds : List Decl) → Reads t ds → ⊥
 abbrev pub Shallow : List ℕ → Option ℕ → Type 0
 Shallow t None = shallow 0 (tokens t) ≡ true
 Shallow t (Some left) = shallow 0 (tokens t) ≡ false
+
+-- The first note, with the words of those behind it, or none where there is none.
+pub record NoteFirst (n : Note) (ns : List Note) (r : NoteRead) : Type 0 where
+  pub left : r.left ≡ n.left
+  pub name : r.name.now ≡ n.name
+  pub rest : r.rest.now ≡ note_words ns
+
+abbrev pub ReadsNote : List Note → Option NoteRead → Type 0
+ReadsNote [] None = Unit {0}
+ReadsNote [] (Some r) = ⊥
+ReadsNote (n ∷ ns) None = ⊥
+ReadsNote (n ∷ ns) (Some r) = NoteFirst n ns r
 
 -- Whether a name is among those noted.
 abbrev pub Later : Name → List Note → Option ℕ → Type 0

@@ -2,9 +2,9 @@
 use Rattle.std.specs.Prelude.{◌≡◌, ℕ, ◌+◌, ◌<◌, ◌≤◌, Bool, true, false, not, ◌&&◌, List, [], ◌∷◌, ◌++◌, length, Some, None, Option, ◌==◌}
 use Rattle.std.proofs.Math.Option.{some, none}
 use Rattle.std.specs.Borrow.{Bor}
-use Rattle.syntax.specs.Surface.{Name, w_eq, w_same, w_along}
+use Rattle.syntax.specs.Surface.{Name, same}
 use Rattle.syntax.specs.Tokens.{letter, blank, joins, tokens}
-use Rattle.syntax.specs.Grammar.{t_is, t_so, t_to, letters, k_fun, k_type, k_def, k_theorem, k_axiom, k_data, k_hide, k_again, k_by, k_intro, k_exact, k_have, k_apply, t_hole}
+use Rattle.syntax.specs.Grammar.{t_is, t_so, t_to, t_hole, letters}
 use Rattle.syntax.specs.Reader.{eat, number_of, read_number, read_binder}
 use Rattle.syntax.specs.declared.lexer.Token.{Token}
 use Rattle.syntax.specs.declared.lexer.Token.TheVariants.{Word, Becomes, Maps, Arrow, Symbol}
@@ -57,16 +57,6 @@ abbrev pub Cuts : List ℕ → Option Cut → Type 0
 Cuts bs None = tokens bs ≡ []
 Cuts bs (Some c) = CutsOne bs c
 
--- The reserved words, in three parts.
-abbrev pub reserved_first : List Name
-reserved_first = k_fun ∷ k_type ∷ k_def ∷ k_theorem ∷ k_axiom ∷ k_data ∷ []
-
-abbrev pub reserved_second : List Name
-reserved_second = k_hide ∷ k_again ∷ k_by ∷ k_intro ∷ k_exact ∷ k_have ∷ []
-
-abbrev pub reserved_third : List Name
-reserved_third = k_apply ∷ w_eq ∷ w_same ∷ w_along ∷ t_hole ∷ []
-
 -- The bytes r are what is left of bs behind something read: fewer bytes and fewer tokens.
 pub record Behind (bs r : List ℕ) : Type 0 where
   pub shorter : length r < length bs
@@ -77,6 +67,26 @@ abbrev pub Eats : Name → List ℕ → Option (Bor (List ℕ)) → Type 0
 Eats k bs None = eat k (tokens bs) ≡ none
 Eats k bs (Some r) = (eat k (tokens bs) ≡ some (tokens r.now)) × Behind bs r.now
 
+-- Only letters, digits and _, and not _ alone.
+abbrev pub is_word : Name → Bool
+is_word w = letters w && not (same w t_hole)
+
+-- No token comes first that passes a test.
+abbrev pub NoWordAt : (Name → Bool) → List Name → Type 0
+NoWordAt test [] = Unit {0}
+NoWordAt test (w ∷ ts) = test w ≡ false
+
+-- A word, if one comes first.
+pub record WordFirst (bs : List ℕ) (w : WordRest) : Type 0 where
+  pub first : tokens bs ≡ w.name.now ∷ tokens w.rest.now
+  pub shorter : length w.name.now + length w.rest.now ≤ length bs
+  pub some_bytes : 1 ≤ length w.name.now
+  pub formed : letters w.name.now ≡ true
+
+abbrev pub FirstWord : List ℕ → Option WordRest → Type 0
+FirstWord bs None = NoWordAt is_word (tokens bs)
+FirstWord bs (Some w) = WordFirst bs w
+
 -- A word that passes a test, if one comes first.
 pub record WordAt (test : Name → Bool) (bs : List ℕ) (w : WordRest) : Type 0 where
   pub passes : test w.name.now ≡ true
@@ -86,10 +96,6 @@ pub record WordAt (test : Name → Bool) (bs : List ℕ) (w : WordRest) : Type 0
   pub some_bytes : 1 ≤ length w.name.now
   pub short : length w.name.now ≤ 32
   pub formed : letters w.name.now ≡ true
-
-abbrev pub NoWordAt : (Name → Bool) → List Name → Type 0
-NoWordAt test [] = Unit {0}
-NoWordAt test (w ∷ ts) = test w ≡ false
 
 abbrev pub FindsWord : (Name → Bool) → List ℕ → Option WordRest → Type 0
 FindsWord test bs None = NoWordAt test (tokens bs)

@@ -3,6 +3,7 @@ pub mod Surface
 pub mod Tokens
 pub mod Grammar
 pub mod Tree
+pub mod Tags
 pub mod Reader
 pub mod Lexing
 pub mod Writing

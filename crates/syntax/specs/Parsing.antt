@@ -9,6 +9,7 @@ use Rattle.syntax.specs.Tree.{put_name, put_expr}
 use Rattle.syntax.specs.Reader.{option, bind, then, eat, read_name, read_number, read_word, Readers, readers, read_atom, read_binder, read_lam}
 use Rattle.syntax.specs.Lexing.{Behind}
 use Rattle.syntax.specs.Writing.{Appends}
+use Rattle.syntax.specs.declared.write.Writer.{Writer}
 use Rattle.syntax.specs.declared.problem.Stop.{Stop}
 use Rattle.syntax.specs.declared.scan.Word.{Word}
 use Rattle.syntax.specs.declared.scan.Number.{Number}
@@ -44,30 +45,30 @@ ExpectsNumber bs (Err s) = read_number (tokens bs) ≡ none
 -- A function has read a value as the reader f does, whenever that may make enough calls; it has written the value's words behind
 -- those that stand, kept its stage, and used no more than the room that the bytes that it has read allow; slack is 1 where it must read something.
 pub record Done {A : Type 0} (f : ℕ → List Name → Maybe (A × List Name)) (words : A → List ℕ) (level : A → ℕ) (slack : ℕ)
-    (ts : List Name) (budget : ℕ) (before : List ℕ) (len : ℕ) (after : List ℕ) (q : Read) : Type 0 where
+    (ts : List Name) (budget : ℕ) (before after : Writer) (q : Read) : Type 0 where
   pub value : A
   pub reads : (n : ℕ) → length ts < n → f n ts ≡ some (value, tokens q.rest.now)
-  pub wrote : Appends before len (words value) after q.len
+  pub wrote : Appends before (words value) after
   pub stage : q.stage ≡ level value
   pub fewer : slack + length (tokens q.rest.now) ≤ length ts
-  pub room : q.len + (slack + 4 * length q.rest.now) ≤ len + budget
+  pub room : after.len + (slack + 4 * length q.rest.now) ≤ before.len + budget
 
 -- The reader f finds nothing, however many calls it may make.
 abbrev pub FindsNone : {A : Type 0} → (ℕ → List Name → Maybe A) → List Name → Type 0
 FindsNone f ts = (n : ℕ) → length ts < n → f n ts ≡ none
 
 -- Both answers.
-abbrev pub Follows : {A : Type 0} → (ℕ → List Name → Maybe (A × List Name)) → (A → List ℕ) → (A → ℕ) → ℕ → List Name → ℕ → List ℕ → ℕ → List ℕ → Result Read Stop → Type 0
-Follows f words level slack ts budget before len after (Ok q) = Done f words level slack ts budget before len after q
-Follows f words level slack ts budget before len after (Err s) = FindsNone f ts
+abbrev pub Follows : {A : Type 0} → (ℕ → List Name → Maybe (A × List Name)) → (A → List ℕ) → (A → ℕ) → ℕ → List Name → ℕ → Writer → Writer → Result Read Stop → Type 0
+Follows f words level slack ts budget before after (Ok q) = Done f words level slack ts budget before after q
+Follows f words level slack ts budget before after (Err s) = FindsNone f ts
 
 -- The words of a term.
 abbrev pub expr_words : Expr → List ℕ
 expr_words a = put_expr a []
 
 -- A function that reads a term as f does.
-abbrev pub FollowsExpr : (ℕ → List Name → Maybe (Expr × List Name)) → List ℕ → List ℕ → ℕ → List ℕ → Result Read Stop → Type 0
-FollowsExpr f bs before len after r = Follows f expr_words expr_stage 1 (tokens bs) (4 * length bs) before len after r
+abbrev pub FollowsExpr : (ℕ → List Name → Maybe (Expr × List Name)) → List ℕ → Writer → Writer → Result Read Stop → Type 0
+FollowsExpr f bs before after r = Follows f expr_words expr_stage 1 (tokens bs) (4 * length bs) before after r
 
 -- A reader with one call less for those that it calls.
 abbrev pub lower : {A : Type 0} → (Readers → List Name → Maybe A) → ℕ → List Name → Maybe A
@@ -126,23 +127,23 @@ level f n ts = f (readers n) ts
 -- A function has read a frame: the reader g finds the frame around what the reader s finds in the tokens behind it. Behind a word
 -- that has been read already, d is 1, else 0.
 pub record Opened (d : ℕ) (g : Readers → List Name → Maybe (Expr × List Name)) (s : ℕ → List Name → Maybe (Expr × List Name))
-    (ts : List Name) (budget : ℕ) (before : List ℕ) (len : ℕ) (after : List ℕ) (q : Read) : Type 0 where
+    (ts : List Name) (budget : ℕ) (before after : Writer) (q : Read) : Type 0 where
   pub frame : Frame
   pub opens : (n : ℕ) → d + length ts ≤ n → g (readers n) ts ≡ wrap frame (s n (tokens q.rest.now))
-  pub wrote : Appends before len (frame_words frame) after q.len
+  pub wrote : Appends before (frame_words frame) after
   pub stage : q.stage ≡ frame_stage frame
   pub fewer : 1 + length (tokens q.rest.now) ≤ length ts
-  pub room : q.len + (1 + 4 * length q.rest.now) ≤ len + budget
+  pub room : after.len + (1 + 4 * length q.rest.now) ≤ before.len + budget
 
-abbrev pub Opens : (Readers → List Name → Maybe (Expr × List Name)) → (ℕ → List Name → Maybe (Expr × List Name)) → List Name → ℕ → List ℕ → ℕ → List ℕ → Result Read Stop → Type 0
-Opens g s ts budget before len after (Ok q) = Opened 1 g s ts budget before len after q
-Opens g s ts budget before len after (Err e) = FindsNone (level g) ts
+abbrev pub Opens : (Readers → List Name → Maybe (Expr × List Name)) → (ℕ → List Name → Maybe (Expr × List Name)) → List Name → ℕ → Writer → Writer → Result Read Stop → Type 0
+Opens g s ts budget before after (Ok q) = Opened 1 g s ts budget before after q
+Opens g s ts budget before after (Err e) = FindsNone (level g) ts
 
 -- A function reads a frame or the last part of a term.
-abbrev pub Links : (Readers → List Name → Maybe (Expr × List Name)) → (ℕ → List Name → Maybe (Expr × List Name)) → List ℕ → List ℕ → ℕ → List ℕ → Result Link Stop → Type 0
-Links g s bs before len after (Ok (More q)) = Opened 0 g s (tokens bs) (4 * length bs) before len after q
-Links g s bs before len after (Ok (Last q)) = Done (lower g) expr_words expr_stage 1 (tokens bs) (4 * length bs) before len after q
-Links g s bs before len after (Err e) = FindsNone (lower g) (tokens bs)
+abbrev pub Links : (Readers → List Name → Maybe (Expr × List Name)) → (ℕ → List Name → Maybe (Expr × List Name)) → List ℕ → Writer → Writer → Result Link Stop → Type 0
+Links g s bs before after (Ok (More q)) = Opened 0 g s (tokens bs) (4 * length bs) before after q
+Links g s bs before after (Ok (Last q)) = Done (lower g) expr_words expr_stage 1 (tokens bs) (4 * length bs) before after q
+Links g s bs before after (Err e) = FindsNone (lower g) (tokens bs)
 
 -- The readers of terms and of scripts, by the number of calls.
 abbrev pub term_reader : ℕ → List Name → Maybe (Expr × List Name)

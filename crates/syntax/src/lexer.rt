@@ -1,11 +1,10 @@
 // Tokens, cut one by one from the bytes that are left.
-ghost use Rattle.std.specs.Prelude.{◌≡◌, ◌<◌, ◌≤◌, true, false, [], ◌∷◌, length, take, drop, slice_index};
-ghost use Rattle.syntax.specs.Tokens.{letter, blank, tokens, tokens_from, word};
-ghost use Rattle.syntax.specs.Grammar.{letters};
+ghost use Rattle.std.specs.Prelude.{◌≡◌, ◌<◌, ◌≤◌, not, ◌==◌, length, drop, take_while, slice_index};
+ghost use Rattle.syntax.specs.Tokens.{letter, blank, tokens};
 ghost use Rattle.syntax.specs.Lexing.{Cuts, CutsOne, Solid, Joins, NoLetter};
 
 // A token: a word of letters, digits and _; the signs := => ->; any other byte by itself.
-#[derive(Clone, Copy)]
+#[derive(Clone, Copy, Debug, PartialEq, Eq)]
 pub enum Token<'a> {
     Word(&'a [u8]),
     Becomes,
@@ -15,7 +14,7 @@ pub enum Token<'a> {
 }
 
 // A token and the bytes behind it.
-#[derive(Clone, Copy)]
+#[derive(Clone, Copy, Debug, PartialEq, Eq)]
 pub struct Cut<'a> {
     pub token: Token<'a>,
     pub rest: &'a [u8],
@@ -25,14 +24,21 @@ pub struct Cut<'a> {
 fn is_letter(b: u8) -> bool
     ensures { result ≡ letter b }
 {
-    (b'a' <= b && b <= b'z') || (b'A' <= b && b <= b'Z') || b == b'_' || (b'0' <= b && b <= b'9')
+    b.is_ascii_alphanumeric() || b == b'_'
 }
 
 // Is it a space, the end of a line, a tab?
 fn is_blank(b: u8) -> bool
     ensures { result ≡ blank b }
 {
-    b == b' ' || b == b'\n' || b == b'\r' || b == b'\t'
+    matches!(b, b' ' | b'\n' | b'\r' | b'\t')
+}
+
+// How many bytes stand before the first end of a line, or before the end.
+fn line_len(bytes: &[u8]) -> usize
+    ensures { result ≡ length (take_while (λ b. not (b == 10)) bytes.now) }
+{
+    bytes.iter().take_while(|b| **b != b'\n').count()
 }
 
 // How many bytes of blanks and comments stand before the first token.
@@ -42,33 +48,23 @@ fn blank_len(bytes: &[u8]) -> usize
     ensures solid { Solid (drop result bytes.now) }
 {
     let mut n = 0;
-    let mut comment = false;
     while n < bytes.len() {
-        let b = bytes[n];
-        if comment {
-            comment = b != b'\n';
-        } else if b == b'#' {
-            comment = true;
-        } else if !is_blank(b) {
+        if bytes[n] == b'#' {
+            n += line_len(&bytes[n..]);
+        } else if is_blank(bytes[n]) {
+            n += 1;
+        } else {
             break;
         }
-        n += 1;
     }
     n
 }
 
 // How many bytes the word at the front has.
 fn word_len(bytes: &[u8]) -> usize
-    ensures within { result ≤ length bytes.now }
-    ensures keeps { tokens_from (word []) bytes.now ≡ take result bytes.now ∷ tokens (drop result bytes.now) }
-    ensures letters { letters (take result bytes.now) ≡ true }
-    ensures begun { letter (slice_index bytes.now 0) ≡ true → 0 < length bytes.now → 0 < result }
+    ensures { result ≡ length (take_while letter bytes.now) }
 {
-    let mut n = 0;
-    while n < bytes.len() && is_letter(bytes[n]) {
-        n += 1;
-    }
-    n
+    bytes.iter().take_while(|b| is_letter(**b)).count()
 }
 
 // The sign that two bytes make.

@@ -12,6 +12,7 @@ pub mod parse;
 pub mod problem;
 mod reading;
 pub mod scan;
+pub mod tag;
 mod terms;
 mod write;
 

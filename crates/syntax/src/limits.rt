@@ -1,7 +1,6 @@
 // The limits of a text: how many brackets are open at once, and that no name is declared twice.
-ghost use Rattle.std.specs.Prelude.{◌≡◌, List, ◌∷◌, drop};
-ghost use Rattle.syntax.specs.Surface.{same};
-ghost use Rattle.syntax.specs.Declaring.{Note, note_words, Later, Distinct, Shallow};
+ghost use Rattle.std.specs.Prelude.{◌≡◌, List};
+ghost use Rattle.syntax.specs.Declaring.{Note, note_words, ReadsNote, Later, Distinct, Shallow};
 
 use crate::lexer::next_token;
 use crate::scan::is_token;
@@ -26,61 +25,55 @@ pub fn first_too_deep(text: &[u8]) -> Option<usize>
     None
 }
 
-// Are the words the same?
-fn same_words(left: &[u32], right: &[u32]) -> bool
-    ensures { result ≡ same left.now right.now }
-{
-    if left.len() != right.len() {
-        return false;
-    }
-    for i in 0..left.len() {
-        if left[i] != right[i] {
-            return false;
-        }
-    }
-    true
+// A note of a declared name: how many bytes were left behind the name, the name, and the words of the notes behind it.
+#[derive(Clone, Copy, Debug, PartialEq, Eq)]
+pub struct NoteRead<'a> {
+    pub left: usize,
+    pub name: &'a [u32],
+    pub rest: &'a [u32],
 }
 
-// The name of the note at a place.
-fn name_at(names: &[u32], at: usize) -> &[u32]
-    requires { (n : Note) × (ns : List Note) × (drop at names.now ≡ note_words (n ∷ ns)) }
-    ensures { (n : Note) (ns : List Note) → drop at names.now ≡ note_words (n ∷ ns) → result.now ≡ n.name }
+// The first note.
+fn first_note(notes: &[u32]) -> Option<NoteRead<'_>>
+    requires { (ns : List Note) × (notes.now ≡ note_words ns) }
+    ensures { (ns : List Note) → notes.now ≡ note_words ns → ReadsNote ns result }
 {
-    let len = names[at + 1] as usize;
-    let start = at + 2;
-    let end = start + len;
-    &names[start..end]
+    let (left, rest) = notes.split_first()?;
+    let (len, rest) = rest.split_first()?;
+    let (name, rest) = rest.split_at(*len as usize);
+    Some(NoteRead {
+        left: *left as usize,
+        name,
+        rest,
+    })
 }
 
-// How many bytes were left behind the next note of the same name as the note at a place.
-fn later(names: &[u32], at: usize) -> Option<usize>
-    requires { (n : Note) × (ns : List Note) × (drop at names.now ≡ note_words (n ∷ ns)) }
-    ensures { (n : Note) (ns : List Note) → drop at names.now ≡ note_words (n ∷ ns) → Later n.name ns result }
+// How many bytes were left behind the first note of a name, if it is among those noted.
+fn later(name: &[u32], notes: &[u32]) -> Option<usize>
+    requires { (ns : List Note) × (notes.now ≡ note_words ns) }
+    ensures { (ns : List Note) → notes.now ≡ note_words ns → Later name.now ns result }
 {
-    let name = name_at(names, at);
-    let mut place = at + 2 + name.len();
-    while place < names.len() {
-        let other = name_at(names, place);
-        if same_words(name, other) {
-            return Some(names[place] as usize);
+    let mut rest = notes;
+    while let Some(note) = first_note(rest) {
+        if name == note.name {
+            return Some(note.left);
         }
-        place = place + 2 + other.len();
+        rest = note.rest;
     }
     None
 }
 
 // How many bytes were left behind the first name that is declared again, if one is.
-pub fn first_repeated(names: &[u32]) -> Option<usize>
-    requires { (ns : List Note) × (names.now ≡ note_words ns) }
-    ensures { (ns : List Note) → names.now ≡ note_words ns → Distinct ns result }
+pub fn first_repeated(notes: &[u32]) -> Option<usize>
+    requires { (ns : List Note) × (notes.now ≡ note_words ns) }
+    ensures { (ns : List Note) → notes.now ≡ note_words ns → Distinct ns result }
 {
-    let mut place = 0;
-    while place < names.len() {
-        if let Some(left) = later(names, place) {
+    let mut rest = notes;
+    while let Some(note) = first_note(rest) {
+        if let Some(left) = later(note.name, note.rest) {
             return Some(left);
         }
-        let name = name_at(names, place);
-        place = place + 2 + name.len();
+        rest = note.rest;
     }
     None
 }

@@ -5,10 +5,10 @@ ghost use Rattle.syntax.specs.Lexing.{lexeme};
 ghost use Rattle.syntax.specs.Headers.{begins_decl, FindsHeader, HeadersRight, TokenAt};
 
 use crate::lexer::{Token, next_token};
-use crate::scan::{read_name, same_bytes};
+use crate::scan::read_name;
 
 // How a declaration begins: its keyword, its name, and where the keyword stands.
-#[derive(Clone, Copy)]
+#[derive(Clone, Copy, Debug, PartialEq, Eq)]
 pub struct Header<'a> {
     pub keyword: &'a [u8],
     pub name: &'a [u8],
@@ -21,24 +21,17 @@ pub fn line_at(text: &[u8], at: usize) -> usize
     requires fits { at + 1 < 2 ^ 64 }
     ensures { result ≡ line_of text.now at }
 {
-    let front = &text[0..at];
-    let mut line = 1;
-    for b in front {
-        if *b == b'\n' {
-            line += 1;
-        }
-    }
-    line
+    1 + text[..at].iter().filter(|b| **b == b'\n').count()
 }
+
+// The words that begin a declaration.
+const BEGINNINGS: [&[u8]; 4] = [b"def", b"theorem", b"axiom", b"data"];
 
 // Does a declaration begin with the word?
 fn begins_declaration(word: &[u8]) -> bool
     ensures { result ≡ begins_decl word.now }
 {
-    same_bytes(word, b"def")
-        || same_bytes(word, b"theorem")
-        || same_bytes(word, b"axiom")
-        || same_bytes(word, b"data")
+    BEGINNINGS.contains(&word)
 }
 
 // The header of the n-th declaration, counted from 0.
@@ -53,9 +46,7 @@ pub fn find_header(text: &[u8], n: usize) -> Option<Header<'_>>
             if begins_declaration(keyword) {
                 if left == 0 {
                     let at = text.len() - keyword.len() - rest.len();
-                    let Some(word) = read_name(rest) else {
-                        return None;
-                    };
+                    let word = read_name(rest)?;
                     return Some(Header {
                         keyword,
                         name: word.name,

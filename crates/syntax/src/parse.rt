@@ -1,18 +1,24 @@
 // A text as declarations: within the limits, with each name declared once, read to the end.
-ghost use Rattle.std.specs.Prelude.{◌+◌, ◌*◌, ◌≤◌, length};
+ghost use Rattle.std.specs.Prelude.{◌*◌, ◌≤◌, length};
 ghost use Rattle.syntax.specs.Surface.{decl_stage, decl_names};
 ghost use Rattle.syntax.specs.Reader.{read_decl};
 ghost use Rattle.syntax.specs.Declaring.{Declares, DeclaresAll, Parses, decl_words};
+ghost use Rattle.syntax.specs.Writing.{HasRoom};
 
 use crate::data::data_type;
-use crate::declarations::{Progress, Whole, assumption, definition};
+use crate::declarations::{assumption, definition};
 use crate::lexer::next_token;
 use crate::limits::{first_repeated, first_too_deep};
 use crate::problem::{Problem, Stop};
+use crate::reading::Read;
 use crate::scan::eat;
+use crate::write::Writer;
+
+// The most bytes that a text may have.
+const TEXT_LEN: usize = 32768;
 
 // What was read: how many words the tree has, how many declarations there are, and the text's stage.
-#[derive(Clone, Copy)]
+#[derive(Clone, Copy, Debug, PartialEq, Eq)]
 pub struct Parsed {
     pub words: usize,
     pub count: usize,
@@ -22,31 +28,25 @@ pub struct Parsed {
 // A declaration, by its first word.
 fn declaration<'a>(
     bytes: &'a [u8],
-    out: &mut [u32],
-    len: usize,
-    names: &mut [u32],
-    used: usize,
-) -> Result<Progress<'a>, Stop>
+    tree: &mut Writer<'_>,
+    names: &mut Writer<'_>,
+) -> Result<Read<'a>, Stop>
     requires near { length bytes.now ≤ 32768 }
-    requires room { len + 4 * length bytes.now ≤ length out.old }
-    requires notes { used + 3 * length bytes.now ≤ length names.old }
-    ensures { Declares 0 read_decl decl_words decl_names decl_stage bytes.now out.old len out.new names.old used names.new result }
+    requires room { HasRoom tree.old (4 * length bytes.now) }
+    requires notes { HasRoom names.old (3 * length bytes.now) }
+    ensures { Declares 0 read_decl decl_words decl_names decl_stage bytes.now tree.old tree.new names.old names.new result }
 {
     if let Some(rest) = eat(bytes, b"def") {
-        let read = definition(rest, out, len, names, used)?;
-        return Ok(read);
+        return definition(rest, tree, names);
     }
     if let Some(rest) = eat(bytes, b"theorem") {
-        let read = definition(rest, out, len, names, used)?;
-        return Ok(read);
+        return definition(rest, tree, names);
     }
     if let Some(rest) = eat(bytes, b"axiom") {
-        let read = assumption(rest, out, len, names, used)?;
-        return Ok(read);
+        return assumption(rest, tree, names);
     }
     if let Some(rest) = eat(bytes, b"data") {
-        let read = data_type(rest, out, len, names, used)?;
-        return Ok(read);
+        return data_type(rest, tree, names);
     }
     Err(Stop {
         left: bytes.len(),
@@ -55,30 +55,26 @@ fn declaration<'a>(
 }
 
 // All declarations, to the end of the bytes.
-fn declarations(bytes: &[u8], out: &mut [u32], names: &mut [u32]) -> Result<Whole, Stop>
+fn declarations(bytes: &[u8], tree: &mut Writer<'_>, names: &mut Writer<'_>) -> Result<Parsed, Stop>
     requires near { length bytes.now ≤ 32768 }
-    requires room { 4 * length bytes.now ≤ length out.old }
-    requires notes { 3 * length bytes.now ≤ length names.old }
-    ensures { DeclaresAll bytes.now out.new names.new result }
+    requires room { HasRoom tree.old (4 * length bytes.now) }
+    requires notes { HasRoom names.old (3 * length bytes.now) }
+    ensures { DeclaresAll bytes.now tree.old tree.new names.old names.new result }
 {
-    let mut rest = bytes;
-    let mut len = 0;
-    let mut used = 0;
+    let mut all = Read {
+        rest: bytes,
+        stage: 0,
+    };
     let mut count = 0;
-    let mut stage: u32 = 0;
-    while let Some(_cut) = next_token(rest) {
-        let read = declaration(rest, out, len, names, used)?;
-        rest = read.rest;
-        len = read.len;
-        used = read.used;
+    while next_token(all.rest).is_some() {
+        let read = declaration(all.rest, tree, names)?;
+        all = all.then(read);
         count += 1;
-        stage = stage.max(read.stage);
     }
-    Ok(Whole {
-        len,
-        used,
+    Ok(Parsed {
+        words: tree.len,
         count,
-        stage,
+        stage: all.stage,
     })
 }
 
@@ -89,9 +85,9 @@ pub fn parse(text: &[u8], out: &mut [u32], names: &mut [u32]) -> Result<Parsed, 
     requires notes { 3 * length text.now ≤ length names.old }
     ensures { Parses text.now out.new result }
 {
-    if text.len() > 32768 {
+    if text.len() > TEXT_LEN {
         return Err(Stop {
-            left: text.len() - 32768,
+            left: text.len() - TEXT_LEN,
             problem: Problem::TooLong,
         });
     }
@@ -101,16 +97,14 @@ pub fn parse(text: &[u8], out: &mut [u32], names: &mut [u32]) -> Result<Parsed, 
             problem: Problem::TooDeep,
         });
     }
-    let whole = declarations(text, out, names)?;
-    if let Some(left) = first_repeated(&names[..whole.used]) {
+    let mut tree = Writer::new(out);
+    let mut names = Writer::new(names);
+    let parsed = declarations(text, &mut tree, &mut names)?;
+    if let Some(left) = first_repeated(names.written()) {
         return Err(Stop {
             left,
             problem: Problem::Twice,
         });
     }
-    Ok(Parsed {
-        words: whole.len,
-        count: whole.count,
-        stage: whole.stage,
-    })
+    Ok(parsed)
 }

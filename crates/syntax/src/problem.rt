@@ -3,7 +3,7 @@ ghost use Rattle.std.specs.Prelude.{◌≡◌};
 ghost use Rattle.syntax.specs.Phrases.{phrase};
 
 // What is wrong, or what was expected where reading stopped.
-#[derive(Clone, Copy)]
+#[derive(Clone, Copy, Debug, PartialEq, Eq)]
 pub enum Problem {
     TooLong,
     TooDeep,
@@ -56,7 +56,7 @@ impl Problem {
 }
 
 // Where reading stopped, by the number of bytes that were left, and why.
-#[derive(Clone, Copy)]
+#[derive(Clone, Copy, Debug, PartialEq, Eq)]
 pub struct Stop {
     pub left: usize,
     pub problem: Problem,

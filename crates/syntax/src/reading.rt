@@ -4,16 +4,30 @@ ghost use Rattle.syntax.specs.Parsing.{Expects, ExpectsName, ExpectsNumber};
 use crate::problem::{Problem, Stop};
 use crate::scan::{Number, Word, eat, read_name, read_number};
 
-// Something was read: the bytes behind it, where its words end, and its stage.
-#[derive(Clone, Copy)]
+// Something was read: the bytes behind it, and its stage.
+#[derive(Clone, Copy, Debug, PartialEq, Eq)]
 pub struct Read<'a> {
     pub rest: &'a [u8],
-    pub len: usize,
     pub stage: u32,
 }
 
-// A term is read link by link: a binder, whose body comes next, or the last part.
-#[derive(Clone, Copy)]
+impl<'a> Read<'a> {
+    ghost use Rattle.std.specs.Prelude.{◌≡◌, max};
+
+    // What was read behind it, and the stage of both.
+    pub fn then(self, next: Read<'a>) -> Read<'a>
+        ensures rest { result.rest ≡ next.entry.rest }
+        ensures stage { result.stage ≡ max self.entry.stage next.entry.stage }
+    {
+        Read {
+            rest: next.rest,
+            stage: self.stage.max(next.stage),
+        }
+    }
+}
+
+// A term is read link by link: a binder, whose body comes next, or the last part. Neither is a failure, so it is no Result.
+#[derive(Clone, Copy, Debug, PartialEq, Eq)]
 pub enum Link<'a> {
     More(Read<'a>),
     Last(Read<'a>),
@@ -23,37 +37,28 @@ pub enum Link<'a> {
 pub fn expect<'a>(bytes: &'a [u8], wanted: &[u8], problem: Problem) -> Result<&'a [u8], Stop>
     ensures { Expects wanted.now bytes.now result }
 {
-    match eat(bytes, wanted) {
-        Some(rest) => Ok(rest),
-        None => Err(Stop {
-            left: bytes.len(),
-            problem,
-        }),
-    }
+    eat(bytes, wanted).ok_or(Stop {
+        left: bytes.len(),
+        problem,
+    })
 }
 
 // A name that must come first.
 pub fn expect_name(bytes: &[u8]) -> Result<Word<'_>, Stop>
     ensures { ExpectsName bytes.now result }
 {
-    match read_name(bytes) {
-        Some(word) => Ok(word),
-        None => Err(Stop {
-            left: bytes.len(),
-            problem: Problem::Name,
-        }),
-    }
+    read_name(bytes).ok_or(Stop {
+        left: bytes.len(),
+        problem: Problem::Name,
+    })
 }
 
 // A number that must come first.
 pub fn expect_number(bytes: &[u8]) -> Result<Number<'_>, Stop>
     ensures { ExpectsNumber bytes.now result }
 {
-    match read_number(bytes) {
-        Some(number) => Ok(number),
-        None => Err(Stop {
-            left: bytes.len(),
-            problem: Problem::Number,
-        }),
-    }
+    read_number(bytes).ok_or(Stop {
+        left: bytes.len(),
+        problem: Problem::Number,
+    })
 }

@@ -1,74 +1,112 @@
 // Words written one behind the other.
-ghost use Rattle.std.specs.Prelude.{◌≡◌, ◌+◌, ◌<◌, ◌≤◌, [], ◌∷◌, ◌++◌, length, take, drop, replicate};
-ghost use Rattle.syntax.specs.Writing.{Appends};
+ghost use Rattle.std.specs.Prelude.{◌≡◌, ◌+◌, ◌≤◌, [], ◌∷◌, length, take, replicate};
+ghost use Rattle.syntax.specs.Tags.{tag_word};
 
-// One word.
-pub fn push(out: &mut [u32], len: usize, word: u32) -> usize
-    requires { len < length out.old }
-    ensures { Appends out.old len (word ∷ []) out.new result }
-{
-    out[len] = word;
-    len + 1
+use crate::tag::Tag;
+
+// A buffer that is lent, and how many of its words are written.
+#[derive(Drop)]
+pub struct Writer<'w> {
+    pub words: &'w mut [u32],
+    pub len: usize,
 }
 
-// The bytes of a name, a word each.
-fn push_bytes(out: &mut [u32], len: usize, name: &[u8]) -> usize
-    requires { len + length name.now ≤ length out.old }
-    ensures { Appends out.old len name.now out.new result }
-{
-    for i in 0..name.len() {
-        out[len + i] = name[i] as u32;
+impl<'w> Writer<'w> {
+    ghost use Rattle.syntax.specs.Writing.{HasRoom, Appends, Inserts};
+
+    // Nothing is written yet.
+    pub fn new(words: &'w mut [u32]) -> Writer<'w>
+        ensures empty { result.len ≡ 0 }
+        ensures lent { result.words.now ≡ words.old }
+        ensures same { result.words.ghost_name ≡ words.entry.ghost_name }
+    {
+        Writer { words, len: 0 }
     }
-    len + name.len()
-}
 
-// A name: its length and its bytes.
-pub fn push_name(out: &mut [u32], len: usize, name: &[u8]) -> usize
-    requires room { len + (1 + length name.now) ≤ length out.old }
-    requires short { length name.now ≤ 32 }
-    ensures { Appends out.old len (length name.now ∷ name.now) out.new result }
-{
-    let at = push(out, len, name.len() as u32);
-    push_bytes(out, at, name)
-}
-
-// A tag and a name.
-pub fn push_named(out: &mut [u32], len: usize, tag: u32, name: &[u8]) -> usize
-    requires room { len + (2 + length name.now) ≤ length out.old }
-    requires short { length name.now ≤ 32 }
-    ensures { Appends out.old len (tag ∷ (length name.now ∷ name.now)) out.new result }
-{
-    let at = push(out, len, tag);
-    push_name(out, at, name)
-}
-
-// Two words.
-pub fn push_two(out: &mut [u32], len: usize, first: u32, second: u32) -> usize
-    requires { len + 2 ≤ length out.old }
-    ensures { Appends out.old len (first ∷ (second ∷ [])) out.new result }
-{
-    let at = push(out, len, first);
-    push(out, at, second)
-}
-
-// The same word so many times.
-fn push_times(out: &mut [u32], len: usize, word: u32, count: usize) -> usize
-    requires { len + count ≤ length out.old }
-    ensures { Appends out.old len (replicate count word) out.new result }
-{
-    for i in 0..count {
-        out[len + i] = word;
+    // The words that are written.
+    pub fn written(&self) -> &[u32]
+        requires { self.now.len ≤ length self.now.words.now }
+        ensures { result.now ≡ take self.now.len self.now.words.now }
+    {
+        &self.words[..self.len]
     }
-    len + count
-}
 
-// The same word so many times, before what stands from `start` to `len`.
-pub fn insert(out: &mut [u32], start: usize, len: usize, word: u32, count: usize) -> usize
-    requires order { start ≤ len }
-    requires room { len + count ≤ length out.old }
-    ensures { Appends out.old start (replicate count word ++ drop start (take len out.old)) out.new result }
-{
-    let end = push_times(out, len, word, count);
-    out[start..end].rotate_right(count);
-    end
+    // One word.
+    pub fn push(&mut self, word: u32)
+        requires { HasRoom self.old 1 }
+        ensures { Appends self.old (word ∷ []) self.new }
+    {
+        self.words[self.len] = word;
+        self.len += 1;
+    }
+
+    // Two words.
+    pub fn push_two(&mut self, first: u32, second: u32)
+        requires { HasRoom self.old 2 }
+        ensures { Appends self.old (first ∷ (second ∷ [])) self.new }
+    {
+        self.push(first);
+        self.push(second);
+    }
+
+    // The bytes of a name, a word each.
+    fn push_bytes(&mut self, name: &[u8])
+        requires { HasRoom self.old (length name.now) }
+        ensures { Appends self.old name.now self.new }
+    {
+        for b in name {
+            self.push(*b as u32);
+        }
+    }
+
+    // A name: its length and its bytes.
+    pub fn push_name(&mut self, name: &[u8])
+        requires room { HasRoom self.old (1 + length name.now) }
+        requires short { length name.now ≤ 32 }
+        ensures { Appends self.old (length name.now ∷ name.now) self.new }
+    {
+        self.push(name.len() as u32);
+        self.push_bytes(name);
+    }
+
+    // A tag and a name.
+    pub fn push_named(&mut self, tag: Tag, name: &[u8])
+        requires room { HasRoom self.old (2 + length name.now) }
+        requires short { length name.now ≤ 32 }
+        ensures { Appends self.old (tag_word tag ∷ (length name.now ∷ name.now)) self.new }
+    {
+        self.push(tag as u32);
+        self.push_name(name);
+    }
+
+    // A note of a declared name, with the number of bytes left behind it.
+    pub fn push_note(&mut self, left: usize, name: &[u8])
+        requires room { HasRoom self.old (2 + length name.now) }
+        requires short { length name.now ≤ 32 }
+        requires near { left ≤ 32768 }
+        ensures { Appends self.old (left ∷ (length name.now ∷ name.now)) self.new }
+    {
+        self.push(left as u32);
+        self.push_name(name);
+    }
+
+    // The same word so many times.
+    fn push_times(&mut self, word: u32, count: usize)
+        requires { HasRoom self.old count }
+        ensures { Appends self.old (replicate count word) self.new }
+    {
+        let end = self.len + count;
+        self.words[self.len..end].fill(word);
+        self.len = end;
+    }
+
+    // The same word so many times, before what is written from a place on.
+    pub fn insert(&mut self, start: usize, word: u32, count: usize)
+        requires order { start ≤ self.old.len }
+        requires room { HasRoom self.old count }
+        ensures { Inserts self.old start (replicate count word) self.new }
+    {
+        self.push_times(word, count);
+        self.words[start..self.len].rotate_right(count);
+    }
 }

@@ -1,10 +1,7 @@
--- Words written one behind the other: nothing, one word, and one piece behind another.
-use Rattle.std.proofs.Common.{◌≡◌, ℕ, ◌+◌, ◌<◌, ◌≤◌, List, [], ◌∷◌, ◌++◌, length, take, drop, set, sym, refl, ap, ◌∙◌, append_assoc, append-nil, arith, length-append, length-set, length-take}
+-- Words written one behind the other: one word, and one piece behind another.
+use Rattle.std.proofs.Common.{◌≡◌, ℕ, ◌+◌, ◌<◌, ◌≤◌, List, [], ◌∷◌, ◌++◌, length, take, drop, set, sym, refl, ap, ◌∙◌, append_assoc, arith, length-append, length-take}
 use Rattle.std.proofs.lemmas.List.{take_more_set, drop_at, take-take, take-append-le, take-append-drop}
 use Rattle.terms.specs.Writing.{Appends}
-
-pub append_none : (o : List ℕ) (len : ℕ) → Appends o len [] o (len + 0)
-append_none o len = record { ends = refl; words = ap (λ (k : ℕ). take k o) (let z : len + 0 ≡ len = omega arith in z) ∙ sym (append-nil _) }
 
 pub append_one : (o : List ℕ) (len w : ℕ) → len < length o → Appends o len (w ∷ []) (set o len w) (len + 1)
 append_one o len w h = record { ends = refl; words = take_more_set o len w h }
@@ -19,21 +16,6 @@ append_as o₁ o₂ l n x y e p = record { ends = p.ends ∙ ap (λ (z : List �
 
 pub append_to : (o₁ o₂ : List ℕ) (l m n : ℕ) (x : List ℕ) → m ≡ n → Appends o₁ l x o₂ m → Appends o₁ l x o₂ n
 append_to o₁ o₂ l m n x e p = record { ends = sym e ∙ p.ends; words = ap (λ (k : ℕ). take k o₂) (sym e) ∙ p.words }
-
--- One word more.
-pub append_next : (o₁ o₂ : List ℕ) (l i : ℕ) (x : List ℕ) (w : ℕ) → l + i < length o₂ → Appends o₁ l x o₂ (l + i) → Appends o₁ l (x ++ (w ∷ [])) (set o₂ (l + i) w) (l + (i + 1))
-append_next o₁ o₂ l i x w h p =
-    append_to o₁ _ l (l + i + 1) (l + (i + 1)) _ (omega arith)
-    (append_then o₁ o₂ _ l (l + i) (l + i + 1) x (w ∷ []) p (append_one o₂ (l + i) w h))
-
--- Three words.
-pub append_three : (o : List ℕ) (l a b c : ℕ) → l + 3 ≤ length o → Appends o l (a ∷ b ∷ c ∷ []) (set (set (set o l a) (l + 1) b) (l + 2) c) (l + 3)
-append_three o l a b c h =
-    append_to o _ l (l + 2 + 1) (l + 3) _ (omega arith)
-    (append_then o _ _ l (l + 2) _ (a ∷ b ∷ []) (c ∷ [])
-    (append_to o _ l (l + 1 + 1) (l + 2) _ (omega arith)
-    (append_then o _ _ l (l + 1) _ (a ∷ []) (b ∷ []) (append_one o l a (omega arith)) (append_one _ (l + 1) b (omega (arith, length-set o l a)))))
-    (append_one _ (l + 2) c (omega (arith, length-set (set o l a) (l + 1) b, length-set o l a))))
 
 -- What stood below stands.
 pub append_keeps : (o₁ o₂ : List ℕ) (l n k : ℕ) (x : List ℕ) → k ≤ l → l ≤ length o₁ → Appends o₁ l x o₂ n → take k o₂ ≡ take k o₁

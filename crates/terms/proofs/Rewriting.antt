@@ -164,9 +164,6 @@ module _ {w : Rewrite} {ws : List ℕ} {p cut : ℕ} {out₀ : List ℕ} {start 
     pub doing_at : At ws place s.term (puts (terms s.items) s.rest)
     doing_at = record { stands = s.reads }
 
-    pub doing_holds : Holds ws place
-    doing_holds = record { term = s.term; rest = puts (terms s.items) s.rest; at = doing_at }
-
     pub doing_within : place + 3 ≤ length ws
     doing_within = (row_three ws place s.term (terms s.items) s.rest s.reads).within
 

@@ -35,6 +35,7 @@ pub fn lift(
     requires shallow { cut ≤ 2 ^ 63 }
     ensures { (t : Term) (rest : List ℕ) → At from.now at t rest → Copies out.old start out.new (length stack.old) (lift_term cut by t) result }
 {
+    // The loop of `subst` again: one for both would take what is put for a node as a closure, whose contract is longer than the loop.
     let mut place = at;
     let mut end = start;
     let mut free = stack.len();

@@ -14,23 +14,6 @@ equal-requires c =
 pub returns-then-equal : goal.returns-then-equal
 returns-then-equal c e a t rest at la lb s = (inl (c.if-equal.ensures a t rest _ la (stands_at _ _ _ t s)), refl)
 
-pub to_normal-requires : goal.to_normal-requires
-to_normal-requires c =
-    let p = c.requires.pair in
-    record {
-      ready = record {
-        env = p.env;
-        term = p.right;
-        scope = p.scope;
-        env_at = p.env_at.at;
-        closed = p.closed;
-        stands = p.right_at;
-        scoped = c.requires.right_scoped;
-        few = p.few;
-      };
-      order = omega arith;
-    }
-
 pub agree_normal-requires : goal.agree_normal-requires
 agree_normal-requires c =
     let p = c.requires.pair in

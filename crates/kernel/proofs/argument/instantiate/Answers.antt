@@ -8,9 +8,6 @@ use Rattle.kernel.proofs.Tops.{appended_within, copies_none}
 use Rattle.kernel.proofs.Arguments.{codomain_at, pi_within}
 use Rattle.kernel.proofs.argument.instantiate.Goals as goal
 
-pub overflow_add-kept : goal.overflow_add-kept
-overflow_add-kept c = let f = c.requires.function in omega (arith, pi_within _ _ f.domain f.codomain _ f.at)
-
 pub end_of-body-requires : goal.end_of-body-requires
 end_of-body-requires c = let f = c.requires.function in holds _ _ f.domain _ (at_pi_domain _ _ f.domain f.codomain _ f.at)
 
@@ -18,9 +15,6 @@ pub subst-requires : goal.subst-requires
 subst-requires c =
     let f = c.requires.function in
     record { stands = holds _ _ f.codomain _ (codomain_at _ _ _ f.domain f.codomain _ f.at c.end_of-body.ensures); argument = c.requires.argument; order = omega arith; shallow = omega arith }
-
-pub overflow_sub-heap : goal.overflow_sub-heap
-overflow_sub-heap c = let f = c.requires.function in omega (arith, pi_within _ _ f.domain f.codomain _ f.at)
 
 pub returns-then-heap-kept : goal.returns-then-heap-kept
 returns-then-heap-kept c a b t x y at ta =

@@ -1,15 +1,7 @@
-use Rattle.std.proofs.Common.{◌-◌, ◌≤◌, length, refl, arith, rules}
+use Rattle.std.proofs.Common.{◌-◌, refl, arith}
 use Rattle.kernel.proofs.Tops.{appended_within}
 use Rattle.kernel.proofs.Inserting.{pi_inserted}
 use Rattle.kernel.proofs.body.insert_pi.Goals as goal
-
-pub slice_bounds-rotate_right-end : goal.slice_bounds-rotate_right-end
-slice_bounds-rotate_right-end c =
-    let t = c.requires.stands in
-    let a = c.in_ok-stop.ensures t.term t.rest t.at in
-    let h : c.in_ok-stop.stop ≤ length c.copy_term.new.out = appended_within _ _ c.push_sign-start.result c.in_ok-stop.stop t.term (omega (arith, c.push_sign-start.ensures.ends, c.if-heap-end-lt3.false)) a in
-    let k : c.args.top ≤ c.in_ok-stop.stop = omega (arith, a.ends, c.push_sign-start.ensures.ends, c.requires.order) in
-    search rules
 
 pub returns : goal.returns
 returns c a t rest at s =

@@ -2,16 +2,6 @@ use Rattle.theory.specs.Environment.{defined, assumed}
 use Rattle.kernel.proofs.Written.{head_leaf}
 use Rattle.kernel.proofs.leaf.head_type.Goals as goal
 
-pub stored_type-requires-clause-stands : goal.stored_type-requires-clause-stands
-stored_type-requires-clause-stands c =
-    let (t, a, is, s, _) = rw (c.in_ok-at.ensures.ok_part, c.in-Definition.is) at (c.find_entry.ensures c.requires.stored.env c.requires.stored.at) in
-    record { term = a; rest = s.rest; at = s.at }
-
-pub stored_type-requires-in-Axiom-clause-stands : goal.stored_type-requires-in-Axiom-clause-stands
-stored_type-requires-in-Axiom-clause-stands c =
-    let (a, is, s) = rw (c.in_ok-at.ensures.ok_part, c.in-Axiom.is) at (c.find_entry.ensures c.requires.stored.env c.requires.stored.at) in
-    record { term = a; rest = s.rest; at = s.at }
-
 pub returns-in-Axiom : goal.returns-in-Axiom
 returns-in-Axiom c e stack at =
     let (a, is, s) = rw (c.in_ok-at.ensures.ok_part, c.in-Axiom.is) at (c.find_entry.ensures e at) in

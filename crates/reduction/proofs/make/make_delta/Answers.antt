@@ -1,9 +1,6 @@
-use Rattle.std.proofs.Common.{◌≡◌, sym, ap, ◌∙◌, subst as tr, arith}
-use mathlib.Core.Option.{Option}
-use Rattle.theory.specs.Environment.{Entry, entry_body}
-use Rattle.theory.specs.Reduction.{bind}
-use Rattle.theory.proofs.Options.{some_inj}
+use Rattle.std.proofs.Common.{◌≡◌, sym, subst as tr, arith}
 use Rattle.terms.specs.Words.{At}
+use Rattle.reduction.proofs.Making.{delta_is}
 use Rattle.reduction.proofs.make.make_delta.Goals as goal
 
 pub copy_term-requires : goal.copy_term-requires
@@ -14,5 +11,5 @@ copy_term-requires c =
 pub returns-in-Definition : goal.returns-in-Definition
 returns-in-Definition c = λ e u v s.
     let (t, a, q, x, y) = rw c.in-Definition.is at (c.in_ok-body.ensures e v) in
-    let r : t ≡ u = some_inj (sym (ap (λ (o : Option Entry). bind o entry_body) q) ∙ s) in
+    let r : t ≡ u = sym (delta_is e c.args.number t a q s) in
     c.copy_term.ensures u y.rest (tr (λ z. At c.args.env.store.now c.in-Definition.body z y.rest) r y.at)

@@ -9,10 +9,10 @@ returns-in_default c =
     record {
       value = e_at c.args.name.now (c.in_ok-first.first.value ∷ []);
       reads = λ n h. rw (f.reads, c.in_default.ensures) refl;
-      wrote = append_then _ _ _ _ _ _ _ _ c.push_named-at.ensures c.push_two-end.ensures;
+      wrote = append_then c.push_named.ensures c.push_two.ensures;
       stage = c.indexed_stage-stage.ensures;
       fewer = omega (arith, f.behind.fewer);
-      room = omega (arith, c.push_named-at.ensures.ends, c.push_two-end.ensures.ends, f.behind.shorter, c.requires.some);
+      room = omega (arith, c.push_named.ensures.ends, c.push_two.ensures.ends, f.behind.shorter, c.requires.some);
     }
 
 pub returns : goal.returns
@@ -22,8 +22,8 @@ returns c =
     record {
       value = e_at c.args.name.now (c.in_ok-first.first.value ∷ c.in_ok-second.second.value ∷ []);
       reads = λ n h. rw (f.reads, c.in-Some.ensures.0, s.reads) refl;
-      wrote = append_as _ _ _ _ _ _ (ap (λ (r : List ℕ). 2 ∷ length c.args.name.now ∷ r) (append_assoc c.args.name.now _ _)) (append_then _ _ _ _ _ _ _ _ (append_then _ _ _ _ _ _ _ _ c.push_named-at.ensures c.push_two-at.ensures) c.push-end.ensures);
+      wrote = append_as (ap (λ (r : List ℕ). 2 ∷ length c.args.name.now ∷ r) (append_assoc c.args.name.now _ _)) (append_then (append_then c.push_named.ensures c.push_two-2.ensures) c.push.ensures);
       stage = c.indexed_stage-stage.ensures;
       fewer = omega (arith, f.behind.fewer, c.in-Some.ensures.1.fewer, s.behind.fewer);
-      room = omega (arith, c.push_named-at.ensures.ends, c.push_two-at.ensures.ends, c.push-end.ensures.ends, f.behind.shorter, s.behind.shorter, c.in-Some.ensures.1.shorter, c.requires.some);
+      room = omega (arith, c.push_named.ensures.ends, c.push_two-2.ensures.ends, c.push.ensures.ends, f.behind.shorter, s.behind.shorter, c.in-Some.ensures.1.shorter, c.requires.some);
     }

@@ -10,8 +10,8 @@ returns c =
     record {
       value = e_full c.in_ok-word.word.name.now;
       reads = λ n h. rw w.reads refl;
-      wrote = append_as _ _ _ _ _ _ (named 3 _) c.push_named-end.ensures;
+      wrote = append_as (named 3 _) c.push_named.ensures;
       stage = refl;
       fewer = omega (arith, w.fewer);
-      room = omega (arith, c.push_named-end.ensures.ends, w.shorter, w.some_bytes);
+      room = omega (arith, c.push_named.ensures.ends, w.shorter, w.some_bytes);
     }

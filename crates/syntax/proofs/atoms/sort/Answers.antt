@@ -8,8 +8,8 @@ returns c =
     record {
       value = e_sort c.in_ok-level.level.value;
       reads = λ n h. rw l.reads refl;
-      wrote = c.push_two-end.ensures;
+      wrote = c.push_two.ensures;
       stage = refl;
       fewer = omega (arith, l.behind.fewer);
-      room = omega (arith, c.push_two-end.ensures.ends, l.behind.shorter);
+      room = omega (arith, c.push_two.ensures.ends, l.behind.shorter);
     }

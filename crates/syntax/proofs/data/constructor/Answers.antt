@@ -17,13 +17,13 @@ returns c =
     record {
       value = record { name = x; fields = p.value; recs = m };
       reads = λ n h. then_is _ _ w.reads (then_is _ _ (p.reads n (omega (arith, h, w.fewer))) (bind_is _ _ a.0 (then_is _ _ k.reads (bind_is _ _ s.0 refl))));
-      wrote = append_as _ _ _ _ _ _ (ap (λ (z : List ℕ). 12 ∷ length x ∷ z) (append_assoc x _ _ ∙ ap (λ (z : List ℕ). x ++ z) (sym (params_then p.value [] (m ∷ [])))))
-          (append_then _ _ _ _ _ _ _ _ (append_then _ _ _ _ _ _ _ _ c.push_named-at.ensures p.wrote) c.push-end.ensures);
+      wrote = append_as (ap (λ (z : List ℕ). 12 ∷ length x ∷ z) (append_assoc x _ _ ∙ ap (λ (z : List ℕ). x ++ z) (sym (params_then p.value [] (m ∷ [])))))
+          (append_then (append_then c.push_named.ensures p.wrote) c.push.ensures);
       notes = record { left = length c.in_ok-word.word.rest.now; name = x } ∷ [];
       named = refl;
-      noted = append_as _ _ _ _ _ _ (note_alone _ _) c.note-noted.ensures;
+      noted = append_as (note_alone _ _) c.push_note.ensures;
       stage = p.stage;
       fewer = omega (arith, w.fewer, p.fewer, a.1.fewer, k.behind.fewer, s.1.fewer);
-      room = omega (arith, w.shorter, w.some_bytes, c.push_named-at.ensures.ends, p.room, a.1.shorter, k.behind.shorter, s.1.shorter, c.push-end.ensures.ends);
-      note_room = omega (arith, w.shorter, w.some_bytes, c.note-noted.ensures.ends, p.room, p.wrote.ends, a.1.shorter, k.behind.shorter, s.1.shorter);
+      room = omega (arith, w.shorter, w.some_bytes, c.push_named.ensures.ends, p.room, a.1.shorter, k.behind.shorter, s.1.shorter, c.push.ensures.ends);
+      note_room = omega (arith, w.shorter, w.some_bytes, c.push_note.ensures.ends, p.room, p.wrote.ends, a.1.shorter, k.behind.shorter, s.1.shorter);
     }

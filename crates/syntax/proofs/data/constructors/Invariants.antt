@@ -4,8 +4,8 @@ use Rattle.syntax.specs.Declaring.{con_words, con_name, con_stage}
 use Rattle.syntax.proofs.Items.{Items}
 use Rattle.syntax.proofs.data.constructors.Given as goal
 
-abbrev pub invariant-loop-behind : goal.invariant-loop-behind
-invariant-loop-behind l = Items read_cons con_words con_name con_stage l.bytes l.initial.out l.len l.out l.initial.names l.used l.names l.rest l.end l.noted l.stage
+abbrev pub invariant-loop-rest : goal.invariant-loop-rest
+invariant-loop-rest l = Items read_cons con_words con_name con_stage l.bytes l.initial.tree l.initial.names l.tree l.names l.all.rest.now l.all.stage
 
-abbrev pub decreases-loop-behind : goal.decreases-loop-behind
-decreases-loop-behind l = length l.rest
+abbrev pub decreases-loop-rest : goal.decreases-loop-rest
+decreases-loop-rest l = length l.all.rest.now

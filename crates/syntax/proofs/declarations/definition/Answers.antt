@@ -12,19 +12,19 @@ use Rattle.syntax.proofs.declarations.definition.Goals as goal
 
 pub returns-in_err-start : goal.returns-in_err-start
 returns-in_err-start c =
-    declares_fail _ _ _ _ _ _ _ _ _ _ _ _ c.from_residual.result c.from_residual.ensures.0 (λ n h. def_parts n (tokens c.args.bytes.now) ∙ then_not (read_head n (tokens c.args.bytes.now)) (def_rest n) (c.in_err-start.ensures n h))
+    declares_fail _ _ _ _ _ _ _ _ _ _ c.from_residual.result c.from_residual.ensures.0 (λ n h. def_parts n (tokens c.args.bytes.now) ∙ then_not (read_head n (tokens c.args.bytes.now)) (def_rest n) (c.in_err-start.ensures n h))
 
 pub returns-in_err-of_type : goal.returns-in_err-of_type
 returns-in_err-of_type c =
     let s = c.in_ok-start.ensures in
-    declares_fail _ _ _ _ _ _ _ _ _ _ _ _ c.from_residual-in_err-of_type.result c.from_residual-in_err-of_type.ensures.0
+    declares_fail _ _ _ _ _ _ _ _ _ _ c.from_residual-in_err-of_type.result c.from_residual-in_err-of_type.ensures.0
     (λ n h. def_parts n (tokens c.args.bytes.now) ∙ then_is (read_head n (tokens c.args.bytes.now)) (def_rest n) (s.reads n h) (then_not _ _ (c.in_err-of_type.ensures n (omega (arith, h, s.fewer)))))
 
 pub returns-in_err-rest : goal.returns-in_err-rest
 returns-in_err-rest c =
     let s = c.in_ok-start.ensures in
     let t = c.in_ok-of_type.ensures in
-    declares_fail _ _ _ _ _ _ _ _ _ _ _ _ c.from_residual-in_err-rest.result c.from_residual-in_err-rest.ensures.0
+    declares_fail _ _ _ _ _ _ _ _ _ _ c.from_residual-in_err-rest.result c.from_residual-in_err-rest.ensures.0
     (λ n h. def_parts n (tokens c.args.bytes.now) ∙ then_is (read_head n (tokens c.args.bytes.now)) (def_rest n) (s.reads n h) (then_is _ _ (t.reads n (omega (arith, h, s.fewer))) (bind_not _ _ c.in_err-rest.ensures)))
 
 pub returns-in_err-body : goal.returns-in_err-body
@@ -32,7 +32,7 @@ returns-in_err-body c =
     let s = c.in_ok-start.ensures in
     let t = c.in_ok-of_type.ensures in
     let e = c.in_ok-rest.ensures in
-    declares_fail _ _ _ _ _ _ _ _ _ _ _ _ c.from_residual-in_err-body.result c.from_residual-in_err-body.ensures.0
+    declares_fail _ _ _ _ _ _ _ _ _ _ c.from_residual-in_err-body.result c.from_residual-in_err-body.ensures.0
     (λ n h. def_parts n (tokens c.args.bytes.now) ∙ then_is (read_head n (tokens c.args.bytes.now)) (def_rest n) (s.reads n h) (then_is _ _ (t.reads n (omega (arith, h, s.fewer))) (bind_is _ _ e.0
     (then_not _ _ (term_at n _ ∙ c.in_err-body.ensures n (omega (arith, h, s.fewer, t.fewer, e.1.fewer)))))))
 
@@ -42,7 +42,7 @@ returns-in_err-rest-2 c =
     let t = c.in_ok-of_type.ensures in
     let e = c.in_ok-rest.ensures in
     let b = c.in_ok-body.ensures in
-    declares_fail _ _ _ _ _ _ _ _ _ _ _ _ c.from_residual-in_err-rest-2.result c.from_residual-in_err-rest-2.ensures.0
+    declares_fail _ _ _ _ _ _ _ _ _ _ c.from_residual-in_err-rest-2.result c.from_residual-in_err-rest-2.ensures.0
     (λ n h. def_parts n (tokens c.args.bytes.now) ∙ then_is (read_head n (tokens c.args.bytes.now)) (def_rest n) (s.reads n h) (then_is _ _ (t.reads n (omega (arith, h, s.fewer))) (bind_is _ _ e.0
     (then_is _ _ (term_at n _ ∙ b.reads n (omega (arith, h, s.fewer, t.fewer, e.1.fewer))) (bind_not _ _ c.in_err-rest-2.ensures)))))
 
@@ -57,8 +57,8 @@ returns c =
       value = d_def s.value.name s.value.hidden t.value b.value;
       reads = λ n h. def_parts n (tokens c.args.bytes.now) ∙ then_is (read_head n (tokens c.args.bytes.now)) (def_rest n) (s.reads n h) (then_is _ _ (t.reads n (omega (arith, h, s.fewer))) (bind_is _ _ e.0
           (then_is _ _ (term_at n _ ∙ b.reads n (omega (arith, h, s.fewer, t.fewer, e.1.fewer))) (bind_is _ _ f.0 refl))));
-      wrote = append_as _ _ _ _ _ _ (append_assoc (head_words 13 s.value) _ _ ∙ head_apart 13 s.value _ ∙ ap (λ (z : List ℕ). 13 ∷ put_name s.value.name (s.value.hidden ∷ z)) (sym (expr_then t.value _)))
-          (append_then _ _ _ _ _ _ _ _ (append_then _ _ _ _ _ _ _ _ s.wrote t.wrote) b.wrote);
+      wrote = append_as (append_assoc (head_words 13 s.value) _ _ ∙ head_apart 13 s.value _ ∙ ap (λ (z : List ℕ). 13 ∷ put_name s.value.name (s.value.hidden ∷ z)) (sym (expr_then t.value _)))
+          (append_then (append_then s.wrote t.wrote) b.wrote);
       notes = s.notes;
       named = s.named;
       noted = s.noted;

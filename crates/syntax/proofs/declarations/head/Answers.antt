@@ -12,12 +12,12 @@ returns c =
     record {
       value = record { name = c.in_ok-word.word.name.now; hidden = c.in_ok-hidden.hidden.value };
       reads = λ n l. then_is _ _ w.reads (then_is _ _ h.reads refl);
-      wrote = append_then _ _ _ _ _ _ _ _ c.push_named-at.ensures c.push-end.ensures;
+      wrote = append_then c.push_named.ensures c.push.ensures;
       notes = record { left = length c.in_ok-word.word.rest.now; name = c.in_ok-word.word.name.now } ∷ [];
       named = refl;
-      noted = append_as _ _ _ _ _ _ (note_alone _ _) c.note-noted.ensures;
+      noted = append_as (note_alone _ _) c.push_note.ensures;
       stage = elim c.if-hidden-eq0.branch [ then-hidden-eq0 w ↦ w.stage-is ∙ hidden_none _ w.if-hidden-eq0.true | else-hidden-eq0 w ↦ w.stage-is ∙ hidden_some _ w.if-hidden-eq0.false ];
       fewer = omega (arith, w.fewer, h.fewer);
-      room = omega (arith, w.shorter, w.some_bytes, h.shorter, c.push_named-at.ensures.ends, c.push-end.ensures.ends);
-      note_room = omega (arith, w.shorter, w.some_bytes, h.shorter, c.note-noted.ensures.ends);
+      room = omega (arith, w.shorter, w.some_bytes, h.shorter, c.push_named.ensures.ends, c.push.ensures.ends);
+      note_room = omega (arith, w.shorter, w.some_bytes, h.shorter, c.push_note.ensures.ends);
     }

@@ -1,31 +1,14 @@
-use Rattle.std.proofs.Common.{Bool, drop, sym, ap, ◌∙◌, arith}
-use Rattle.syntax.specs.Tokens.{tokens_from}
-use Rattle.syntax.proofs.Cutting.{skipping, skip_on_comment, skip_on_hash, skip_on_blank, skip_all, skip_stop}
+use Rattle.std.proofs.Common.{◌≡◌, ℕ, not, List, length, drop, eqb, ap, ◌∙◌, arith, length-drop}
+use Rattle.std.proofs.lemmas.List.{take_rest}
+use Rattle.std.specs.List.{take_while}
+use Rattle.syntax.proofs.Cutting.{hash_at, cut_within}
 use Rattle.syntax.proofs.lexer.blank_len.Goals as goal
-use Rattle.syntax.proofs.lexer.blank_len.Goals.{then-comment, else-comment+then-b-eq35, else-comment+else-b-eq35+else-not-is_blank}
 
-pub loop-n-preserved : goal.loop-n-preserved
-loop-n-preserved c =
+pub loop-n-preserved-then-bytes-n-eq35 : goal.loop-n-preserved-then-bytes-n-eq35
+loop-n-preserved-then-bytes-n-eq35 c =
     let bs = c.args.bytes.now in
-    let p = c.loop-n.invariant.1 in (
-      omega arith,
-      elim c.if-comment.branch [
-        | then-comment w ↦ skip_on_comment _ _ bs _ c.loop-n-test.true p w.if-comment.true w.comment-is
-        | else-comment+then-b-eq35 w ↦ skip_on_hash _ _ bs _ c.loop-n-test.true p w.if-comment.false w.comment-is w.if-b-eq35.true
-        | else-comment+else-b-eq35+else-not-is_blank w ↦ skip_on_blank _ _ bs _ c.loop-n-test.true p w.if-comment.false w.comment-is (sym w.if-not-is_blank.ensures)
-      ],
+    let n = c.loop-n.n in
+    let e : c.line_len-n.result ≡ length (take_while (λ b. not (eqb b 10)) (drop n bs)) = c.line_len-n.ensures ∙ ap (λ (ds : List ℕ). length (take_while (λ b. not (eqb b 10)) ds)) (take_rest bs n) in (
+      omega (arith, e, cut_within (λ b. not (eqb b 10)) (drop n bs), length-drop n bs, c.loop-n.invariant.0),
+      c.loop-n.invariant.1 ∙ hash_at bs n _ c.loop-n-test.true c.if-bytes-n-eq35.true e,
     )
-
-pub returns-after-loop-n : goal.returns-after-loop-n
-returns-after-loop-n c =
-    let h = skip_all c.loop-n.comment c.args.bytes.now c.loop-n.n c.loop-n-test.false c.loop-n.invariant.1 in
-    record { within = c.loop-n.invariant.0; keeps = h.0; solid = h.1 }
-
-pub returns-then-not-is_blank : goal.returns-then-not-is_blank
-returns-then-not-is_blank c =
-    let bs = c.args.bytes.now in
-    record {
-      within = c.loop-n.invariant.0;
-      keeps = c.loop-n.invariant.1 ∙ ap (λ (x : Bool). tokens_from (skipping x) (drop c.loop-n.n bs)) c.if-comment.false;
-      solid = skip_stop bs c.loop-n.n c.loop-n-test.true (sym c.if-not-is_blank.ensures) c.if-b-eq35.false;
-    }

@@ -1,12 +1,11 @@
-use Rattle.std.proofs.Common.{◌≡◌, ◌-◌, ◌≤◌, List, ◌∷◌, length, drop}
+use Rattle.std.proofs.Common.{◌≡◌, List, length}
 use Rattle.syntax.specs.Surface.{listed}
 use Rattle.syntax.specs.Declaring.{Note, note_words, note_names}
 use Rattle.syntax.proofs.limits.later.Given as goal
 
-abbrev pub invariant-loop-place : goal.invariant-loop-place
-invariant-loop-place l =
-    (l.place ≤ length l.names) × ((n : Note) (ns : List Note) → drop l.at l.names ≡ note_words (n ∷ ns)
-    → (ms : List Note) × (drop l.place l.names ≡ note_words ms) × (listed n.name (note_names ns) ≡ listed n.name (note_names ms)))
+abbrev pub invariant-loop-note : goal.invariant-loop-note
+invariant-loop-note l =
+    (ns : List Note) → l.notes ≡ note_words ns → (ms : List Note) × (l.rest ≡ note_words ms) × (listed l.name (note_names ns) ≡ listed l.name (note_names ms))
 
-abbrev pub decreases-loop-place : goal.decreases-loop-place
-decreases-loop-place l = length l.names - l.place
+abbrev pub decreases-loop-note : goal.decreases-loop-note
+decreases-loop-note l = length l.rest

@@ -14,9 +14,9 @@ overflow_sub-at-then-left-eq0 c =
 
 pub returns-then-left-eq0 : goal.returns-then-left-eq0
 returns-then-left-eq0 c =
-    header_found _ c.loop-cut.rest.now c.loop-cut.invariant.1.0 _ c.loop-cut.left c.in-Some.cut c.in-Word.keyword c.in-Some-read_name.word
+    header_found _ c.loop-cut.rest.now c.loop-cut.invariant.1.0 _ c.loop-cut.left c.in-Some.cut c.in-Word.keyword c.in_ok-word.word
     c.loop-cut.invariant.0 c.loop-cut.invariant.1.1 c.in-Some.ensures c.in-Word.is
-    (sym c.begins_declaration.ensures ∙ c.if-begins_declaration.true) c.if-left-eq0.true c.in-Some-read_name.ensures
+    (sym c.begins_declaration.ensures ∙ c.if-begins_declaration.true) c.if-left-eq0.true c.in_ok-word.ensures
 
 pub loop-cut-preserved-then-begins_declaration : goal.loop-cut-preserved-then-begins_declaration
 loop-cut-preserved-then-begins_declaration c =

@@ -48,25 +48,25 @@ abbrev pub decreases-uses : goal.decreases-uses
 decreases-uses l = 8 * length l.bytes.now + 1
 
 abbrev pub invariant-apply-loop-inner : goal.invariant-apply-loop-inner
-invariant-apply-loop-inner l = Row (λ n. (readers n).args) l.initial.rest l.initial.out l.initial.end l.out l.rest l.end l.initial.stage l.stage l.count
+invariant-apply-loop-inner l = Row (λ n. (readers n).args) l.initial.all.rest.now l.initial.out l.out l.all.rest.now l.initial.all.stage l.all.stage l.count
 
 abbrev pub decreases-apply-loop-inner : goal.decreases-apply-loop-inner
-decreases-apply-loop-inner l = length l.rest
+decreases-apply-loop-inner l = length l.all.rest.now
 
-abbrev pub invariant-script-loop-link : goal.invariant-script-loop-link
-invariant-script-loop-link l = Chain script_reader l.bytes l.initial.out l.len l.out l.rest l.end l.stage
+abbrev pub invariant-script-loop-read : goal.invariant-script-loop-read
+invariant-script-loop-read l = Chain script_reader l.bytes l.initial.out l.out l.all.rest.now l.all.stage
 
-abbrev pub decreases-script-loop-link : goal.decreases-script-loop-link
-decreases-script-loop-link l = length l.rest
+abbrev pub decreases-script-loop-read : goal.decreases-script-loop-read
+decreases-script-loop-read l = length l.all.rest.now
 
-abbrev pub invariant-term-loop-link : goal.invariant-term-loop-link
-invariant-term-loop-link l = Chain term_reader l.bytes l.initial.out l.len l.out l.rest l.end l.stage
+abbrev pub invariant-term-loop-read : goal.invariant-term-loop-read
+invariant-term-loop-read l = Chain term_reader l.bytes l.initial.out l.out l.all.rest.now l.all.stage
 
-abbrev pub decreases-term-loop-link : goal.decreases-term-loop-link
-decreases-term-loop-link l = length l.rest
+abbrev pub decreases-term-loop-read : goal.decreases-term-loop-read
+decreases-term-loop-read l = length l.all.rest.now
 
 abbrev pub invariant-uses-loop-out : goal.invariant-uses-loop-out
-invariant-uses-loop-out l = Row (λ n. (readers n).row) l.initial.rest l.initial.out l.initial.end l.out l.rest l.end l.initial.stage l.stage l.count
+invariant-uses-loop-out l = Row (λ n. (readers n).row) l.initial.all.rest.now l.initial.out l.out l.all.rest.now l.initial.all.stage l.all.stage l.count
 
 abbrev pub decreases-uses-loop-out : goal.decreases-uses-loop-out
-decreases-uses-loop-out l = length l.rest
+decreases-uses-loop-out l = length l.all.rest.now

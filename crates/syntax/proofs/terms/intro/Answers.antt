@@ -13,8 +13,8 @@ returns c =
     record {
       frame = f_lam c.in_ok-word.word.name.now e_hole;
       opens = λ n h. then_is _ _ w.reads (bind_is _ _ e.0 (wrap-then (f_lam c.in_ok-word.word.name.now e_hole) _));
-      wrote = append_then _ _ _ _ _ _ _ _ c.push_named-at.ensures c.push-end.ensures;
+      wrote = append_then c.push_named.ensures c.push.ensures;
       stage = refl;
       fewer = omega (arith, w.fewer, e.1.fewer);
-      room = omega (arith, c.push_named-at.ensures.ends, c.push-end.ensures.ends, w.shorter, e.1.shorter, w.some_bytes);
+      room = omega (arith, c.push_named.ensures.ends, c.push.ensures.ends, w.shorter, e.1.shorter, w.some_bytes);
     }

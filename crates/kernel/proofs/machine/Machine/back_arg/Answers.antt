@@ -1,14 +1,12 @@
 use Rattle.std.proofs.Common.{◌≡◌, length, arith}
-use Rattle.std.specs.Prelude.{Some, None}
 use Rattle.std.proofs.lemmas.Result.{err_from_is_err_and}
-use Rattle.theory.specs.Terms.{subst}
 use Rattle.kernel.specs.declared.failure.Failure.TheVariants.{NoRoom}
 use Rattle.theory.proofs.Closed.{typed_scoped}
 use Rattle.terms.proofs.Subterms.{holds_small}
 use Rattle.kernel.proofs.Backs.{type_scoped, closed_env, top_view}
 use Rattle.kernel.proofs.Moves.{walk_short, top_within}
 use Rattle.kernel.proofs.Arguments.{applied, pi_within, frame_seven, place_read, kept_read, steps_read, domain_scoped, domain_at, domain_below, function_at, argument_read}
-use Rattle.kernel.proofs.Applying.{applied_typed, applied_full, applied_other, applied_limited, agrees_yes, agrees_no, instance_some, instance_none}
+use Rattle.kernel.proofs.Applying.{applied_typed, applied_full, applied_other, applied_limited, agrees_yes, agrees_no}
 use Rattle.kernel.proofs.machine.Machine.back_arg.Goals as goal
 
 pub kept_number-place-requires : goal.kept_number-place-requires
@@ -71,7 +69,7 @@ returns-clause-turned c k n b e =
     let (o, v) = agrees_yes _ c.kept_number-steps.result c.args.self.now.most _ _ (length c.args.self.now.stack.now) _ _ _ _ (grind arith) (c.in_ok-agree.ensures k.env d.domain b.type _ n.stored (domain_at d _ q) (domain_below d _ q) b.stands) in
     let i = c.instantiate.ensures d.domain d.codomain b.term _ _ (function_at d _ q c.agree.new.heap v) (argument_read d c.kept_number-place.result (place_read d c.kept_number-place.result c.kept_number-place.ensures)) in
     applied_typed d n.sensible b.has b.kept b.at q v (omega arith) (omega (arith, q, d.top_is, top_within b.way b.kept)) o
-    (instance_some (length c.agree.new.stack) (subst 0 b.term d.codomain) (let x : c.instantiate.result ≡ Some c.in_ok-end.end = grind arith in x) i)
+    (rw c.in_ok-end.ensures.ok_part at i)
 
 pub returns-in_err-end-clause-turned : goal.returns-in_err-end-clause-turned
 returns-in_err-end-clause-turned c k n b e =
@@ -83,7 +81,7 @@ returns-in_err-end-clause-turned c k n b e =
     let w : y ≡ NoRoom = grind arith in
     rw (p, w)
     (applied_full d n.sensible b.has (length c.agree.new.heap) (length c.instantiate.new.heap) (length c.agree.new.stack) c.kept_number-kept.result q (omega arith) (omega (arith, n.stack_room)) o
-    (instance_none c.agree.new.heap c.instantiate.new.heap c.kept_number-kept.result (subst 0 b.term d.codomain) (let x : c.instantiate.result ≡ None = grind arith in x) i))
+    (rw c.in_err-end.ensures.ok_part at i))
 
 pub returns-then-not-branch-clause-turned : goal.returns-then-not-branch-clause-turned
 returns-then-not-branch-clause-turned c k n b e =

@@ -1,12 +1,9 @@
 use Rattle.std.proofs.Common.{◌≡◌, length, arith}
-use Rattle.std.specs.Prelude.{Some, None}
 use Rattle.std.proofs.lemmas.Result.{err_from_is_err_and}
-use Rattle.theory.specs.Terms.{pi}
 use Rattle.kernel.specs.declared.failure.Failure.TheVariants.{NoRoom}
-use Rattle.kernel.proofs.Tops.{fits_some, fits_none}
 use Rattle.kernel.proofs.Reduced.{stands_within}
 use Rattle.kernel.proofs.Backs.{top_frame, top_view}
-use Rattle.kernel.proofs.Codomains.{name_under_lam, under_lam_typed, under_lam_full, under_lam_domain}
+use Rattle.kernel.proofs.Codomains.{under_lam_typed, under_lam_full, under_lam_domain}
 use Rattle.kernel.proofs.machine.Machine.back_under_lam.Goals as goal
 
 pub kept_number-place-requires : goal.kept_number-place-requires
@@ -17,16 +14,11 @@ insert_pi-requires c =
     let b = c.requires.can.behind in
     record { stands = under_lam_domain b.way (top_view b.way b.kept c.requires.tagged) b.kept c.kept_number-place.ensures; order = omega (arith, b.stands.ends); within = b.within }
 
-pub unbound-requires : goal.unbound-requires
-unbound-requires c =
-    let b = c.requires.can.behind in
-    record { names = omega (arith, name_under_lam b.way (top_view b.way b.kept c.requires.tagged) b.kept); free = omega (arith, top_frame b.way b.kept c.requires.tagged.below) }
-
 pub returns-clause-turned : goal.returns-clause-turned
 returns-clause-turned c k n b e =
     rw c.unbound.ensures
     (under_lam_typed n.sensible b.way (top_view b.way b.kept c.requires.tagged) b.kept b.at b.has c.kept_number-place.ensures (omega (arith, (stands_within _ _ _ _ b.stands).0))
-    (λ a rest at. fits_some (pi a b.type) (let x : c.insert_pi.result ≡ Some c.in_ok-end.end = grind arith in x) (c.insert_pi.ensures a b.type rest at b.stands)) (top_frame b.way b.kept c.requires.tagged.below))
+    (λ a rest at. rw c.in_ok-end.ensures.ok_part at (c.insert_pi.ensures a b.type rest at b.stands)) (top_frame b.way b.kept c.requires.tagged.below))
 
 pub returns-in_err-end-clause-turned : goal.returns-in_err-end-clause-turned
 returns-in_err-end-clause-turned c k n b e =
@@ -34,4 +26,4 @@ returns-in_err-end-clause-turned c k n b e =
     let w : y ≡ NoRoom = grind arith in
     rw (p, w)
     (under_lam_full (length c.insert_pi.new.heap) n.sensible b.way (top_view b.way b.kept c.requires.tagged) b.kept b.has c.kept_number-place.ensures (omega arith)
-    (λ a rest at. fits_none c.args.self.now.heap.now c.insert_pi.new.heap c.args.spot.top (pi a b.type) (let x : c.insert_pi.result ≡ None = grind arith in x) (c.insert_pi.ensures a b.type rest at b.stands)))
+    (λ a rest at. rw c.in_err-end.ensures.ok_part at (c.insert_pi.ensures a b.type rest at b.stands)))

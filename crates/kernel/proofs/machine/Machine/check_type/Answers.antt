@@ -2,7 +2,7 @@ use Rattle.std.proofs.Common.{◌∙◌, length, sym, arith}
 use Rattle.theory.proofs.Decisions.{sort_yes}
 use Rattle.kernel.specs.Inference.{z_end}
 use Rattle.kernel.proofs.Backs.{type_scoped, closed_env}
-use Rattle.kernel.proofs.Checks.{kept_stored, kept_most, level_failed, sort_failed}
+use Rattle.kernel.proofs.Checks.{kept_stored, kept_most, level_failed}
 use Rattle.kernel.proofs.machine.Machine.check_type.Goals as goal
 
 pub to_level-requires : goal.to_level-requires
@@ -35,6 +35,3 @@ returns-in_err-to_level-clause-sorted c k n b e =
     let (x, h, s, l) = c.in_ok-end.ensures.answers k n b e in
     level_failed {k = k} c.infer.new.self.most c.infer.new.self.heap.now c.to_level.new.heap _ (length c.infer.new.self.stack.now) n.sensible h (e ∙ sym (kept_most p)) (omega arith) (omega (arith, n.stack_room, p.heap, p.stack))
     _ c.from_residual-in_err-to_level.result c.from_residual-in_err-to_level.ensures.1 (c.in_err-to_level.ensures k.env x (kept_stored p n.stored) s)
-
-pub returns-in_err-end-clause-sorted : goal.returns-in_err-end-clause-sorted
-returns-in_err-end-clause-sorted c k n b e = sort_failed k c.infer.new.self.heap.now _ _ c.from_residual.result c.from_residual.ensures.1 (omega arith) (c.in_err-end.ensures.answers k n b e)

@@ -1,7 +1,6 @@
 use Rattle.std.proofs.Common.{length, sym, arith}
 use Rattle.std.specs.Prelude.{Ok, Err}
 use Rattle.std.proofs.lemmas.Result.{err_from_is_err_and}
-use Rattle.terms.proofs.Places.{holds_within}
 use Rattle.kernel.proofs.Places.{walk_core}
 use Rattle.kernel.proofs.Views.{view, core_rest}
 use Rattle.kernel.proofs.Moves.{before_at, before_within, frame-room, down_pi, down_lam, down_app, top_within, context_fits}

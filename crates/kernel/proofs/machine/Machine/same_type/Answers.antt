@@ -1,12 +1,9 @@
-use Rattle.std.proofs.Common.{◌≡◌, length, arith}
-use Rattle.std.specs.Prelude.{Some, None}
-use Rattle.std.proofs.lemmas.Result.{err_from_is_err_and}
+use Rattle.std.proofs.Common.{arith}
 use Rattle.terms.proofs.Places.{at_kept}
-use Rattle.kernel.specs.declared.failure.Limit.TheVariants.{NoRoom}
 use Rattle.kernel.proofs.Reduced.{stands_within}
-use Rattle.kernel.proofs.Tops.{appended_stands, appended_within, fits_some, fits_none}
+use Rattle.kernel.proofs.Tops.{appended_stands, appended_within}
 use Rattle.kernel.proofs.Agreeing.{stands_at}
-use Rattle.kernel.proofs.Checks.{agrees_copied, not_copied}
+use Rattle.kernel.proofs.Checks.{agrees_copied}
 use Rattle.kernel.proofs.machine.Machine.same_type.Goals as goal
 
 pub copy_term-requires : goal.copy_term-requires
@@ -18,7 +15,7 @@ pub agree-requires : goal.agree-requires
 agree-requires c =
     let p = c.requires in
     let l = (stands_within _ _ _ _ p.left_at).1 in
-    let w = fits_some p.right (let x : c.copy_term.result ≡ Some c.in_ok-end.end = grind arith in x) (c.copy_term.ensures p.right p.rest p.right_at) in
+    let w = rw c.in_ok-end.ensures.ok_part at (c.copy_term.ensures p.right p.rest p.right_at) in
     record {
       pair = record {
         env = p.env;
@@ -42,12 +39,6 @@ agree-requires c =
 pub returns-clause-agrees : goal.returns-clause-agrees
 returns-clause-agrees c e b a rest at s ta =
     let l = (stands_within _ _ _ _ s).1 in
-    let w = fits_some a (let x : c.copy_term.result ≡ Some c.in_ok-end.end = grind arith in x) (c.copy_term.ensures a rest ta) in
+    let w = rw c.in_ok-end.ensures.ok_part at (c.copy_term.ensures a rest ta) in
     agrees_copied e _ _ _ _ _ _ _ _ b a c.agree.result l w (omega arith) (omega arith)
     (c.agree.ensures e b a _ at (at_kept _ _ _ _ _ _ b _ l (omega (arith, s.ends)) w (stands_at _ _ _ b s)) (omega (arith, s.ends)) (appended_stands _ _ _ _ a l w))
-
-pub returns-in_err-end-clause-agrees : goal.returns-in_err-end-clause-agrees
-returns-in_err-end-clause-agrees c e b a rest at s ta =
-    let (y, p, q) = err_from_is_err_and c.from_residual.result c.from_residual.ensures.1 in
-    let w : y ≡ NoRoom = grind arith in
-    rw (p, w) (not_copied e _ _ _ _ b a (fits_none c.args.self.now.heap.now c.copy_term.new.out c.args.top a (let x : c.copy_term.result ≡ None = grind arith in x) (c.copy_term.ensures a rest ta)))

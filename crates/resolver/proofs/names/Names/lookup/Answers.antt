@@ -11,8 +11,8 @@ loop-row-init c =
       rowing = row_start _ _ _ _ (ap (λ (i : ChunksExact ℕ). i.rest.now) e ∙ c.chunks_exact-row-items.ensures.rest);
     }
 
-pub name_at-requires : goal.name_at-requires
-name_at-requires c =
+pub is_name-requires : goal.is_name-requires
+is_name-requires c =
     let s = c.in-Some.ensures.steps in let i = c.loop-row.invariant in
     row_named _ _ _ _ (s.1.1 ∙ i.size) s.1.0 _ (i.rowing _ c.requires.at).at
 
@@ -21,17 +21,17 @@ sign_at-requires c =
     let s = c.in-Some.ensures.steps in let i = c.loop-row.invariant in
     row_holds _ _ _ _ (s.1.1 ∙ i.size) s.1.0 _ (i.rowing _ c.requires.at).at
 
-pub returns-then-eq : goal.returns-then-eq
-returns-then-eq c gs a =
+pub returns-then-is_name : goal.returns-then-is_name
+returns-then-is_name c gs a =
     let s = c.in-Some.ensures.steps in let i = c.loop-row.invariant in
-    row_hit _ _ _ _ (s.1.1 ∙ i.size) s.1.0 (i.rowing gs a) _ c.name_at.ensures (sym c.eq.ensures ∙ c.if-eq.true) _ c.sign_at.ensures
+    row_hit _ _ _ _ (s.1.1 ∙ i.size) s.1.0 (i.rowing gs a) (λ y n. sym (c.is_name.ensures y n) ∙ c.if-is_name.true) _ c.sign_at.ensures
 
 pub loop-row-preserved : goal.loop-row-preserved
 loop-row-preserved c =
     let s = c.in-Some.ensures.steps in let i = c.loop-row.invariant in
     record {
       size = s.0 ∙ i.size;
-      rowing = λ gs a. row_miss _ _ _ _ (s.1.1 ∙ i.size) s.1.0 (i.rowing gs a) _ c.name_at.ensures (sym c.eq.ensures ∙ c.if-eq.false);
+      rowing = λ gs a. row_miss _ _ _ _ (s.1.1 ∙ i.size) s.1.0 (i.rowing gs a) (λ y n. sym (c.is_name.ensures y n) ∙ c.if-is_name.false);
     }
 
 pub returns : goal.returns
