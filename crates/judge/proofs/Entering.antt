@@ -65,7 +65,7 @@ module _ {t tree index table store : List ℕ} {words : ℕ} {s : Spot} {done re
   known = next j.judged j.globals
 
   -- There is room to resolve it, and its nodes are few.
-  room : s.used + 3 + 3 * decl_nodes d ≤ length store
+  pub room : s.used + 3 + 3 * decl_nodes d ≤ length store
   room = omega (arith, j.store_room, entry_few d known.basic, names_few rest, decl_length d rest, length-append (decl_names d) (names_of rest))
 
   depth : decl_nodes d ≤ words
@@ -107,10 +107,10 @@ module _ {t tree index table store : List ℕ} {words : ℕ} {s : Spot} {done re
     forced b a = tr (ConvEntry e c) (sym (x.unique b a.0)) (conv_self c (known.core c x.elab))
 
     -- Judging stands behind the declaration.
-    pub moved : (index' table' store'' : List ℕ) (rows number : ℕ) → length index' ≡ length index → length table' ≡ length table → length store'' ≡ length store → rows ≡ s.rows + 4
+    pub moved : (index' table' store'' : List ℕ) (words' rows number : ℕ) → words' ≡ words → length index' ≡ length index → length table' ≡ length table → length store'' ≡ length store → rows ≡ s.rows + 4
         → number ≡ s.count → WfEntry e c → Extends index store' s.count s.used index' store'' c (put_entry c) → GlobalsAt tree (take rows table') (gs ++ globals_of number d)
-        → Judging t tree index' table' store'' words (record { place = w.behind; count = s.count + 1; rows = rows; used = w.end }) (done ++ (d ∷ [])) rest (gs ++ globals_of (length e) d) (e ++ (c ∷ []))
-    moved index' table' store'' rows number li lt ls r n wf extends globals = record {
+        → Judging t tree index' table' store'' words' (record { place = w.behind; count = s.count + 1; rows = rows; used = w.end }) (done ++ (d ∷ [])) rest (gs ++ globals_of (length e) d) (e ++ (c ∷ []))
+    moved index' table' store'' words' rows number lw li lt ls r n wf extends globals = record {
       judged = go_on t 0 0 done gs e d rest j.judged c (x.elab, wf) forced;
       count = omega (arith, j.count, length-append done (d ∷ []));
       tree_at = x.goes_on;
