@@ -5,3 +5,4 @@ pub mod Cores
 pub mod Settling
 pub mod Going
 pub mod Entering
+pub mod Rows

@@ -21,6 +21,8 @@ use Rattle.judge.specs.Promise.{landed}
 use Rattle.resolver.specs.Entries.{DeclWritten}
 use Rattle.resolver.specs.declared.declarations.Declared.{Declared as Written}
 use Rattle.judge.specs.declared.row.Spot.{Spot}
+use Rattle.judge.specs.declared.Checked.{Checked}
+use Rattle.judge.specs.declared.Checked.TheVariants as answer
 
 -- The text t reads, at landed stages, as the declarations done, which check with globals gs and environment e, and rest.
 pub record Judged (t : List ℕ) (done rest : List Decl) (gs : List Global) (e : Env) : Type 0 where
@@ -43,6 +45,28 @@ pub record Judging (t tree index table store : List ℕ) (words : ℕ) (s : Spot
   pub table_room : s.rows + 4 * length (names_of rest) ≤ length table
   pub store_room : s.used + 2 * length (put_decls rest []) ≤ length store + 4 * length (names_of rest)
   pub words_room : 2 * length (put_decls rest []) ≤ 3 * words + 2
+
+-- The text t reads, at landed stages, as so many declarations ds, which stand in the tree; and there are words for names, and words for
+-- the environment.
+pub record Begins (t tree : List ℕ) (count words room : ℕ) (ds : List Decl) : Type 0 where
+  pub reads : Reads t ds
+  pub in_stage : stage ds < landed
+  pub stands : tree ≡ put_decls ds []
+  pub counts : count ≡ length ds
+  pub short : length tree ≤ 131072
+  pub words_room : 2 * length tree ≤ 3 * words + 2
+  pub env_room : 2 * count + 2 * length tree ≤ room
+
+pub record CanBegin (tree : List ℕ) (count words room : ℕ) : Type 0 where
+  pub text : List ℕ
+  pub decls : List Decl
+  pub begins : Begins text tree count words room decls
+
+-- The answer where judging stops behind so many declarations.
+abbrev pub stop_answer : Failure → ℕ → Checked
+stop_answer Refused n = answer.Refused n
+stop_answer Spent n = answer.Spent n
+stop_answer NoRoom n = answer.NoRoom n
 
 -- Some declaration comes next.
 pub record CanJudge (tree index table store : List ℕ) (words : ℕ) (s : Spot) : Type 0 where

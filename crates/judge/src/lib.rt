@@ -5,6 +5,7 @@
 ghost use Rattle.std.specs.Prelude.{length};
 ghost use Rattle.judge.specs.Promise.{CheckedPost};
 
+use row::judge_row;
 use syntax::parse::parse;
 
 mod next;
@@ -40,10 +41,13 @@ pub fn check(text: &[u8], most: u64, work: &mut [u32]) -> Checked
     if words < 65536 || (words - 65536) / 16 < text.len() {
         return Checked::Few;
     }
-    let (out, rest) = work.split_at_mut(4 * text.len());
-    let (names, _) = rest.split_at_mut(3 * text.len());
-    match parse(text, out, names) {
-        Ok(parsed) => Checked::NotYet(parsed.stage),
-        Err(_) => Checked::NoText,
+    let (tree, rest) = work.split_at_mut(4 * text.len());
+    let (names, rest) = rest.split_at_mut(3 * text.len());
+    let Ok(parsed) = parse(text, tree, names) else {
+        return Checked::NoText;
+    };
+    if parsed.stage > 0 {
+        return Checked::NotYet(parsed.stage);
     }
+    judge_row(&tree[..parsed.words], parsed.count, names, rest, most)
 }

@@ -1,6 +1,8 @@
-use Rattle.std.proofs.Common.{◌≡◌, refl, sym, ℕ, arith}
+use Rattle.std.proofs.Common.{◌≡◌, refl, sym, ap, ℕ, length, length-take, arith}
 use Rattle.judge.specs.declared.Checked.TheVariants.{NotYet, NoText, Few}
 use Rattle.syntax.proofs.OneReading.{one_reading}
+use Rattle.judge.proofs.Sizes.{decls_few}
+use Rattle.judge.proofs.Rows.{begun, few_bytes}
 use Rattle.judge.proofs.check.Goals as goal
 use Rattle.judge.proofs.check.Goals.{then-words-lt65536-via-then-words-lt65536, then-words-lt65536-via-else-words-lt65536+then-words-text}
 
@@ -19,19 +21,33 @@ returns-then-words-lt65536 c =
       one_reading = one_reading;
     }
 
-pub returns-in-Ok : goal.returns-in-Ok
-returns-in-Ok c =
+pub returns-in_default : goal.returns-in_default
+returns-in_default c =
+    record {
+      says = c.in_default.ensures;
+      few = ((λ h. absurd (let z : ⊥ = omega arith in z)), (λ e. absurd (no_text_few e)));
+      one_reading = one_reading;
+    }
+
+pub returns-then-parsed-gt0 : goal.returns-then-parsed-gt0
+returns-then-parsed-gt0 c =
     let d = c.in-Ok.ensures in
     record {
-      says = (d.decls, d.reads, sym d.stage, omega arith);
+      says = (d.decls, d.reads, sym d.stage, c.if-parsed-gt0.true);
       few = ((λ h. absurd (let z : ⊥ = omega arith in z)), (λ e. absurd (not_yet_few _ e)));
       one_reading = one_reading;
     }
 
-pub returns-in-Err : goal.returns-in-Err
-returns-in-Err c =
+pub judge_row-requires : goal.judge_row-requires
+judge_row-requires c =
+    record { text = _; decls = _; begins = begun c.in-Ok.ensures c.if-parsed-gt0.false _ _ (omega arith) (omega arith) (omega arith) }
+
+pub returns : goal.returns
+returns c =
+    let d = c.in-Ok.ensures in
+    let b = begun d c.if-parsed-gt0.false (length c.parse.new.names) (length c.split_at_mut-names.result.1.now) (omega arith) (omega arith) (omega arith) in
     record {
-      says = c.in-Err.ensures;
-      few = ((λ h. absurd (let z : ⊥ = omega arith in z)), (λ e. absurd (no_text_few e)));
+      says = c.judge_row.ensures.says c.args.text.now d.decls (length c.args.work.now) b (omega (arith, b.counts, ap length b.stands, decls_few d.decls, few_bytes d.reads, d.fits, length-take c.in-Ok.parsed.words c.parse.new.out));
+      few = ((λ h. absurd (let z : ⊥ = omega arith in z)), (λ e. absurd (c.judge_row.ensures.judged e)));
       one_reading = one_reading;
     }
