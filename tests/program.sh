@@ -6,7 +6,7 @@ set -u
 root=$(cd "$(dirname "$0")/.." && pwd)
 program=${1:-$root/crates/checker/out/checker}
 program=$(cd "$(dirname "$program")" && pwd)/$(basename "$program")
-landed=${LANDED:-0}
+landed=${LANDED:-1}
 work=$(mktemp -d)
 trap 'rm -rf "$work"' EXIT
 cd "$work" || exit 2
