@@ -6,6 +6,7 @@
 pub mod copy;
 pub mod lift;
 pub mod number;
+mod rewrite;
 pub mod sign;
 pub mod subst;
 #[cfg(test)]

@@ -4,9 +4,9 @@ use Rattle.theory.specs.Terms.{lift}
 use Rattle.terms.specs.declared.sign.Sign.TheVariants.{Var}
 use Rattle.terms.specs.Words.{is_index_lem}
 use Rattle.terms.proofs.Lifting.{writes_term}
-use Rattle.terms.proofs.subst.put_node.Goals as goal
+use Rattle.terms.proofs.subst.SubstitutingRule.put.Goals as goal
 
 pub returns-then-eq : goal.returns-then-eq
-returns-then-eq c u rest a =
+returns-then-eq c u a =
     let e : c.args.sign ≡ Var (record { 0 = c.args.depth }) = search rules in
-    writes_term _ _ _ _ (lift 0 c.args.depth u) _ (cond-true _ _ _ (ap (is_index_lem c.args.depth) e ∙ eq-eqb c.args.depth c.args.depth refl)) c.lift.result (c.lift.ensures u rest a)
+    writes_term _ _ _ _ (lift 0 c.args.depth u) _ (cond-true _ _ _ (ap (is_index_lem c.args.depth) e ∙ eq-eqb c.args.depth c.args.depth refl)) c.lift.result (c.lift.ensures u a.0 a.1)
