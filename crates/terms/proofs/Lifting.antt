@@ -9,7 +9,7 @@ use Rattle.terms.specs.Copying.{Copies, Writes}
 use Rattle.terms.specs.declared.copy.WriteError.{WriteError}
 use Rattle.terms.specs.declared.copy.WriteError.TheVariants.{NoRoom, NoStack}
 use Rattle.terms.proofs.Appending.{append_as}
-use Rattle.terms.specs.Words.{put, root, sign_words, lift_sign, is_index_lem, subst_sign, subst_words, Small, SmallSign, HoldsSmall}
+use Rattle.terms.specs.Words.{put, sign_words, lift_sign, is_index_lem, subst_sign, subst_words, Small, SmallSign, HoldsSmall}
 use Rattle.terms.specs.Rewriting.{rewritten, EachNode}
 use Rattle.terms.proofs.Nodes.{put_append, put-length, size-parts, small_more, small_sign}
 

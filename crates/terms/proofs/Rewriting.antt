@@ -1,10 +1,11 @@
 -- A term written anew node by node, from left to right: what is done with a part depends on the number of binders around it.
 -- One part is at hand; the second parts of the nodes above wait, and their depths stand on a stack.
-use Rattle.std.proofs.Common.{◌≡◌, ℕ, suc, ◌+◌, ◌*◌, ◌<◌, ◌≤◌, true, false, Err, List, [], ◌∷◌, ◌++◌, length, take, drop, sym, refl, ap, ◌∙◌, subst as tr, append_assoc, append-nil, arith, length-append, length-take}
+use Rattle.std.proofs.Common.{◌≡◌, ℕ, suc, ◌+◌, ◌-◌, ◌*◌, ◌<◌, ◌≤◌, true, false, Err, List, [], ◌∷◌, ◌++◌, length, take, drop, sym, refl, ap, ◌∙◌, subst as tr, append_assoc, append-nil, arith, length-append, length-take}
 use Rattle.std.proofs.lemmas.List.{drop-drop, drop_all, nil_from_length}
+use borrow.Rule.Slice.PartMut.{post_of}
 use Rattle.theory.specs.Terms.{h_def, h_data, h_con, h_rec, h_eq, h_refl, h_along, Term, var, const, sort, pi, lam, app}
 use Rattle.theory.proofs.Options.{true-false, false-true}
-use Rattle.terms.specs.Words.{put, puts, At, Holds, root, parts, has_parts, under, number}
+use Rattle.terms.specs.Words.{put, puts, At, root, parts, has_parts, under, number}
 use Rattle.terms.specs.Writing.{Appends, Pushes}
 use Rattle.terms.specs.Copying.{Writes}
 use Rattle.terms.specs.Rewriting.{rewritten, EachNode, HoldsEach}
@@ -13,6 +14,7 @@ use Rattle.terms.specs.declared.copy.WriteError.{WriteError}
 use Rattle.terms.specs.declared.copy.WriteError.TheVariants.{NoRoom, NoStack}
 use Rattle.terms.proofs.Places.{row_three, at_one}
 use Rattle.terms.proofs.Appending.{append_then, append_as}
+use Rattle.terms.proofs.Numbers.{push_as, lent_stands, lent_length}
 
 -- A part and the number of binders around it.
 pub record Item : Type 0 where
@@ -204,7 +206,7 @@ module _ {F : ℕ → Sign → Type 0} {w : ℕ → Sign → List ℕ} {ws : Lis
     doing_fits e = tr (F depth) (sym e) (fit_node F depth s.term s.fits).0
 
     -- what stands below the depths may change
-    pub doing_stack : {stack₂ : List ℕ} → length stack₂ ≡ length stack → drop free stack₂ ≡ drop free stack → Doing F w ws p cut out₀ start place end free depth out stack₂
+    doing_stack : {stack₂ : List ℕ} → length stack₂ ≡ length stack → drop free stack₂ ≡ drop free stack → Doing F w ws p cut out₀ start place end free depth out stack₂
     doing_stack l e = record {
       whole = s.whole;
       rest = s.rest;
@@ -225,6 +227,9 @@ module _ {F : ℕ → Sign → Type 0} {w : ℕ → Sign → List ℕ} {ws : Lis
       fits = s.fits;
       all_fit = s.all_fit;
     }
+
+    pub doing_lent : (part : List ℕ) → length part ≡ length (take (free - 0) (drop 0 stack)) → Doing F w ws p cut out₀ start place end free depth out (part ++ post_of 0 (free - 0) stack)
+    doing_lent part l = doing_stack (lent_length stack part free doing_low l) (lent_stands stack part free doing_low l)
 
     -- one node on, in words
     says_on : s.written ++ (w depth (root s.term) ++ row w (items_of depth s.term) (row w s.items [])) ≡ rewritten w cut s.whole []
@@ -268,8 +273,8 @@ module _ {F : ℕ → Sign → Type 0} {w : ℕ → Sign → List ℕ} {ws : Lis
       doing_no_stack : {n : ℕ} → n ≡ length stack → 3 * free < length (w depth (root s.term)) → (t : Term) (rest : List ℕ) → At ws p t rest → 3 * n < length (rewritten w cut t [])
       doing_no_stack {n} m h t rest a = omega (arith, size_of t rest a, size_left, s.room, s.few, left_long)
 
-      pub doing_full : {n : ℕ} → n ≡ length stack → has_parts (root s.term) ≡ true → free < 2 → (t : Term) (rest : List ℕ) → At ws p t rest → 3 * n < length (rewritten w cut t [])
-      doing_full {n} m q h t rest a = omega (arith, size_of t rest a, size_left, s.room, s.few, left_long, ap length (two depth s.term q).is, long depth (root s.term))
+      pub doing_full : {n : ℕ} → n ≡ length stack → {x : Sign} → x ≡ root s.term → true ≡ has_parts x → free < 2 → (t : Term) (rest : List ℕ) → At ws p t rest → 3 * n < length (rewritten w cut t [])
+      doing_full {n} m r e h t rest a = omega (arith, size_of t rest a, size_left, s.room, s.few, left_long, ap length (two depth s.term (ap has_parts (sym r) ∙ sym e)).is, long depth (root s.term))
 
       -- the words for the root were not written
       pub doing_err : {n : ℕ} → length out₀ ≡ length out → n ≡ length stack → (after : List ℕ) (x : WriteError) → Writes out end after free (w depth (root s.term)) (Err x)
@@ -277,12 +282,17 @@ module _ {F : ℕ → Sign → Type 0} {w : ℕ → Sign → List ℕ} {ws : Lis
       doing_err e m after NoRoom h = doing_no_room e h
       doing_err e m after NoStack h = doing_no_stack m h
 
-    module _ {out₂ : List ℕ} {end₂ : ℕ} (q : Appends out end (w depth (root s.term)) out₂ end₂) where
+    -- the words for the root x were written
+    module _ {x : Sign} (r : x ≡ root s.term) {out₂ : List ℕ} {end₂ : ℕ} (q₀ : Appends out end (w depth x) out₂ end₂) where
+      q : Appends out end (w depth (root s.term)) out₂ end₂
+      q = append_as _ _ _ _ _ _ (ap (w depth) r) q₀
+
       -- into the first part; the second waits
-      pub doing_in : ((d : ℕ) (x : Sign) → 3 ≤ length (w d x)) → has_parts (root s.term) ≡ true → (stack₂ : List ℕ) (top : ℕ) → length stack₂ ≡ length stack → Pushes stack free (under (root s.term) depth) stack₂ top
+      pub doing_in : ((d : ℕ) (x : Sign) → 3 ≤ length (w d x)) → true ≡ has_parts x → {inner : ℕ} → inner ≡ under x depth → {stack₂ : List ℕ} {top : ℕ} → length stack₂ ≡ length stack → Pushes stack free inner stack₂ top
           → Doing F w ws p cut out₀ start (place + 3) end₂ top depth out₂ stack₂
-      doing_in long e stack₂ top l h =
-          let v = two depth s.term e in
+      doing_in long e i {stack₂} {top} l g =
+          let h : Pushes stack free (under (root s.term) depth) stack₂ top = push_as _ _ _ _ _ _ (i ∙ ap (λ (y : Sign). under y depth) r) g in
+          let v = two depth s.term (ap has_parts (sym r) ∙ sym e) in
           let k = tr (Fit F) v.is (fit_node F depth s.term s.fits).1 in
           record {
             whole = s.whole;
@@ -306,9 +316,9 @@ module _ {F : ℕ → Sign → Type 0} {w : ℕ → Sign → List ℕ} {ws : Lis
           }
 
       -- at a node without parts the next one that waits comes
-      pub doing_out : has_parts (root s.term) ≡ false → (free ≡ length stack → ⊥) → (next : ℕ) → ((x : ℕ) (r : List ℕ) → drop free stack ≡ number x r → next ≡ x)
+      pub doing_out : false ≡ has_parts x → (free ≡ length stack → ⊥) → (next : ℕ) → ((x : ℕ) (r : List ℕ) → drop free stack ≡ number x r → next ≡ x)
           → Doing F w ws p cut out₀ start (place + 3) end₂ (free + 2) next out₂ stack
-      doing_out e h next n = go s.items s.waits s.room s.few s.deeps s.all_fit (reads_none e) (says_none e)
+      doing_out e h next n = go s.items s.waits s.room s.few s.deeps s.all_fit (reads_none (ap has_parts (sym r) ∙ sym e)) (says_none (ap has_parts (sym r) ∙ sym e))
         where
           go : (is : List Item) → drop free stack ≡ depths is → free + 2 * length is ≡ length stack → 3 * length is ≤ length s.written → Deep (cut + s.nodes) is → Fit F is
               → drop (place + 3) ws ≡ puts (terms is) s.rest → (s.written ++ w depth (root s.term)) ++ row w is [] ≡ rewritten w cut s.whole []
@@ -338,11 +348,11 @@ module _ {F : ℕ → Sign → Type 0} {w : ℕ → Sign → List ℕ} {ws : Lis
               }
 
       -- or all is done
-      pub doing_done : has_parts (root s.term) ≡ false → free ≡ length stack → (t : Term) (rest : List ℕ) → At ws p t rest → Appends out₀ start (rewritten w cut t []) out₂ end₂
+      pub doing_done : false ≡ has_parts x → free ≡ length stack → (t : Term) (rest : List ℕ) → At ws p t rest → Appends out₀ start (rewritten w cut t []) out₂ end₂
       doing_done e h t rest a =
           let n : s.items ≡ [] = nil_from_length s.items (omega (arith, s.room)) in
           append_as _ _ _ _ _ _
           (sym (append-nil (s.written ++ w depth (root s.term)))
-          ∙ ap (λ (z : List Item). (s.written ++ w depth (root s.term)) ++ row w z []) (sym n) ∙ says_none e
+          ∙ ap (λ (z : List Item). (s.written ++ w depth (root s.term)) ++ row w z []) (sym n) ∙ says_none (ap has_parts (sym r) ∙ sym e)
           ∙ ap (λ (x : Term). rewritten w cut x []) (at_one ws p s.whole t s.rest rest s.stands a).0)
           (append_then _ _ _ _ _ _ _ _ s.writes q)

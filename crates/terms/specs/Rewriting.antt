@@ -29,7 +29,3 @@ pub record HoldsEach (F : ℕ → Sign → Type 0) (d : ℕ) (ws : List ℕ) (p 
   pub rest : List ℕ
   pub at : At ws p term rest
   pub each : EachNode F d term
-
--- The term t stands at place p.
-abbrev pub Stands : List ℕ → ℕ → Term → Type 0
-Stands ws p t = (rest : List ℕ) × At ws p t rest

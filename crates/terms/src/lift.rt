@@ -5,8 +5,8 @@ ghost use Rattle.terms.specs.Words.{At, HoldsSmall, SmallSign, lift_sign, sign_w
 ghost use Rattle.terms.specs.Copying.{Copies};
 
 use crate::copy::WriteError;
-use crate::rewrite::{Rule, rewrite};
-use crate::sign::{Index, Sign, push_sign};
+use crate::rewrite::{Rule, put_sign, rewrite};
+use crate::sign::{Index, Sign};
 
 // The node of a lifted term.
 fn lifted(sign: Sign, cut: usize, by: usize) -> Sign
@@ -40,10 +40,7 @@ impl Rule for Lifting {
         start: usize,
         _stack: &mut [u32],
     ) -> Result<usize, WriteError> {
-        if out.len() - start < 3 {
-            return Err(WriteError::NoRoom);
-        }
-        Ok(push_sign(out, start, lifted(sign, depth, self.by)))
+        put_sign(lifted(sign, depth, self.by), out, start)
     }
 }
 

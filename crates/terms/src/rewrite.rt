@@ -1,24 +1,25 @@
 // A term written anew node by node.
 ghost use Rattle.std.specs.Prelude.{ℕ, ◌-◌, ◌^◌, ◌≤◌, List, [], length};
 ghost use Rattle.theory.specs.Terms.{Term};
-ghost use Rattle.terms.specs.Words.{At};
+ghost use Rattle.terms.specs.Words.{At, sign_words};
 ghost use Rattle.terms.specs.Copying.{Writes};
 ghost use Rattle.terms.specs.Rewriting.{HoldsEach, rewritten};
 
 use crate::copy::WriteError;
 use crate::number::{number_at, push_number};
-use crate::sign::{Sign, sign_at};
+use crate::sign::{Sign, push_sign, sign_at};
 
-// What is put for a node.
+// What is put for the nodes of a term.
 pub trait Rule {
     ghost use Rattle.terms.specs.declared.sign.Sign.{Sign};
 
-    // The term that stands for a variable, if the rule has one.
+    // Is u the term that the rule puts for a variable? Where it puts none, any term is.
     ghost argument: { Self → Term → Type 0 };
 
-    // The words for a node under so many binders, and what the rule asks of the node.
+    // The words for a node under so many binders.
     ghost words: { Self → Term → ℕ → Sign → List ℕ };
 
+    // What the rule asks of a node under so many binders.
     ghost fits: { Self → ℕ → Sign → Type 0 };
 
     // The words for a node under `depth` binders.
@@ -35,8 +36,20 @@ pub trait Rule {
         ensures { (u : Term) → argument self.now u → Writes out.old start out.new (length stack.old) (words self.now u depth sign) result };
 }
 
+// The words of a node, if they fit.
+pub fn put_sign(sign: Sign, out: &mut [u32], start: usize) -> Result<usize, WriteError>
+    requires { start ≤ length out.old }
+    ensures { (stack : ℕ) → Writes out.old start out.new stack (sign_words sign) result }
+{
+    if out.len() - start < 3 {
+        return Err(WriteError::NoRoom);
+    }
+    Ok(push_sign(out, start, sign))
+}
+
 // The term that stands there, under `depth` binders, with what the rule puts for its nodes.
-// The stack has the depths of the second parts that wait, two words each, and below them what the rule needs.
+// Each node's words are three at least. The stack has the depths of the second parts that wait, two words each,
+// and below them what the rule needs.
 pub fn rewrite<R: Rule>(
     rule: &R,
     from: &[u32],

@@ -3,12 +3,11 @@ ghost use Rattle.std.specs.Prelude.{◌≡◌, ℕ, ◌-◌, ◌^◌, ◌≤◌,
 ghost use Rattle.theory.specs.Terms.{Term, subst as subst_term};
 ghost use Rattle.terms.specs.Words.{At, Holds, HoldsSmall, subst_sign, subst_words};
 ghost use Rattle.terms.specs.Copying.{Copies};
-ghost use Rattle.terms.specs.Rewriting.{Stands};
 
 use crate::copy::WriteError;
 use crate::lift::lift;
-use crate::rewrite::{Rule, rewrite};
-use crate::sign::{Index, Sign, push_sign};
+use crate::rewrite::{Rule, put_sign, rewrite};
+use crate::sign::{Index, Sign};
 
 // The node with a larger index one smaller, since the binder of `depth` is gone.
 fn lowered(sign: Sign, depth: usize) -> Sign
@@ -27,8 +26,8 @@ struct Substituting<'a> {
     arg_at: usize,
 }
 
-impl<'a> Rule for Substituting<'a> {
-    ghost argument = { λ s u. Stands s.arg.now s.arg_at u };
+impl Rule for Substituting<'_> {
+    ghost argument = { λ s u. (rest : List ℕ) × At s.arg.now s.arg_at u rest };
 
     ghost words = { λ s u d x. subst_words d u x };
 
@@ -45,10 +44,7 @@ impl<'a> Rule for Substituting<'a> {
         if sign == Sign::Var(Index(depth)) {
             return lift(self.arg, self.arg_at, 0, depth, out, start, stack);
         }
-        if out.len() - start < 3 {
-            return Err(WriteError::NoRoom);
-        }
-        Ok(push_sign(out, start, lowered(sign, depth)))
+        put_sign(lowered(sign, depth), out, start)
     }
 }
 

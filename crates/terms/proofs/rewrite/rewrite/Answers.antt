@@ -1,10 +1,7 @@
-use Rattle.std.proofs.Common.{Err, ◌≡◌, ◌-◌, length, take, sym, ap, ◌∙◌, arith, length-take, rules}
+use Rattle.std.proofs.Common.{Err, ◌≡◌, ◌-◌, length, take, sym, ap, arith, length-take, rules}
 use Rattle.std.proofs.lemmas.Result.{err_from_is_err_and}
-use Rattle.terms.specs.Words.{root, has_parts, under}
-use Rattle.terms.specs.Writing.{Appends}
-use Rattle.terms.proofs.Appending.{append_as}
-use Rattle.terms.proofs.Numbers.{push_as, lent_stands, lent_length}
-use Rattle.terms.proofs.Rewriting.{doing_start, doing_at, doing_within, doing_inside, doing_low, doing_deep, doing_fits, doing_stack, doing_err, doing_full, doing_in, doing_out, doing_done}
+use Rattle.terms.specs.Words.{root}
+use Rattle.terms.proofs.Rewriting.{doing_start, doing_at, doing_within, doing_inside, doing_low, doing_deep, doing_fits, doing_lent, doing_err, doing_full, doing_in, doing_out, doing_done}
 use Rattle.terms.proofs.Lifting.{writes_as}
 use Rattle.terms.proofs.rewrite.rewrite.Goals as goal
 
@@ -30,8 +27,7 @@ overflow_add-place g c = let h = doing_within (c.nodes.invariant _ c.requires.ar
 pub returns-then-free-lt2 : goal.returns-then-free-lt2
 returns-then-free-lt2 g c u t x b a =
     let s = c.nodes.invariant u b in
-    let r : c.sign_at-sign.result ≡ root s.term = c.sign_at-sign.ensures _ _ (doing_at s) in
-    doing_full s (c.requires.long u) (sym c.nodes.auto.stack) (ap has_parts (sym r) ∙ sym c.if-has_parts.ensures) c.if-free-lt2.true t x a
+    doing_full s (c.requires.long u) (sym c.nodes.auto.stack) (c.sign_at-sign.ensures _ _ (doing_at s)) c.if-has_parts.ensures c.if-free-lt2.true t x a
 
 pub inner_depth-requires : goal.inner_depth-requires
 inner_depth-requires g c =
@@ -54,28 +50,15 @@ slice_bounds-put-end g c = let h = doing_low (c.nodes.invariant _ c.requires.arg
 
 pub nodes-preserved-then-has_parts : goal.nodes-preserved-then-has_parts
 nodes-preserved-then-has_parts g c u b =
-    let s = c.nodes.invariant u b in
-    let v = doing_stack s (lent_length c.nodes.stack c.put.new.stack c.nodes.free (doing_low s) c.put.auto.stack) (lent_stands c.nodes.stack c.put.new.stack c.nodes.free (doing_low s) c.put.auto.stack) in
-    let r : c.sign_at-sign.result ≡ root v.term = c.sign_at-sign.ensures _ _ (doing_at v) in
-    let q : Appends c.nodes.out c.nodes.end (g.R.Rule.words c.args.rule.now u c.nodes.binders (root v.term)) c.put.new.out c.in_ok-end.end =
-    append_as _ _ _ _ _ _ (ap (g.R.Rule.words c.args.rule.now u c.nodes.binders) r) (c.in_ok-end.ensures u b) in
-    doing_in v q (c.requires.long u) (ap has_parts (sym r) ∙ sym c.if-has_parts.ensures) c.push_number-free.new.stack c.push_number-free.result c.push_number-free.auto.stack
-    (push_as _ _ _ _ _ _ (c.inner_depth.ensures ∙ ap (λ x. under x c.nodes.binders) r) c.push_number-free.ensures)
+    let s = doing_lent (c.nodes.invariant u b) _ c.put.auto.stack in
+    doing_in s (c.sign_at-sign.ensures _ _ (doing_at s)) (c.in_ok-end.ensures u b) (c.requires.long u) c.if-has_parts.ensures c.inner_depth.ensures c.push_number-free.auto.stack c.push_number-free.ensures
 
 pub returns-then-free-stack : goal.returns-then-free-stack
 returns-then-free-stack g c u t x b a =
-    let s = c.nodes.invariant u b in
-    let v = doing_stack s (lent_length c.nodes.stack c.put.new.stack c.nodes.free (doing_low s) c.put.auto.stack) (lent_stands c.nodes.stack c.put.new.stack c.nodes.free (doing_low s) c.put.auto.stack) in
-    let r : c.sign_at-sign.result ≡ root v.term = c.sign_at-sign.ensures _ _ (doing_at v) in
-    let q : Appends c.nodes.out c.nodes.end (g.R.Rule.words c.args.rule.now u c.nodes.binders (root v.term)) c.put.new.out c.in_ok-end.end =
-    append_as _ _ _ _ _ _ (ap (g.R.Rule.words c.args.rule.now u c.nodes.binders) r) (c.in_ok-end.ensures u b) in
-    doing_done v q (ap has_parts (sym r) ∙ sym c.if-has_parts.ensures) c.if-free-stack.true t x a
+    let s = doing_lent (c.nodes.invariant u b) _ c.put.auto.stack in
+    doing_done s (c.sign_at-sign.ensures _ _ (doing_at s)) (c.in_ok-end.ensures u b) c.if-has_parts.ensures c.if-free-stack.true t x a
 
 pub nodes-preserved : goal.nodes-preserved
 nodes-preserved g c u b =
-    let s = c.nodes.invariant u b in
-    let v = doing_stack s (lent_length c.nodes.stack c.put.new.stack c.nodes.free (doing_low s) c.put.auto.stack) (lent_stands c.nodes.stack c.put.new.stack c.nodes.free (doing_low s) c.put.auto.stack) in
-    let r : c.sign_at-sign.result ≡ root v.term = c.sign_at-sign.ensures _ _ (doing_at v) in
-    let q : Appends c.nodes.out c.nodes.end (g.R.Rule.words c.args.rule.now u c.nodes.binders (root v.term)) c.put.new.out c.in_ok-end.end =
-    append_as _ _ _ _ _ _ (ap (g.R.Rule.words c.args.rule.now u c.nodes.binders) r) (c.in_ok-end.ensures u b) in
-    doing_out v q (ap has_parts (sym r) ∙ sym c.if-has_parts.ensures) c.if-free-stack.false c.number_at-binders.result c.number_at-binders.ensures
+    let s = doing_lent (c.nodes.invariant u b) _ c.put.auto.stack in
+    doing_out s (c.sign_at-sign.ensures _ _ (doing_at s)) (c.in_ok-end.ensures u b) c.if-has_parts.ensures c.if-free-stack.false c.number_at-binders.result c.number_at-binders.ensures
