@@ -5,7 +5,7 @@ ghost use Rattle.std.proofs.Math.ListN.{get_elem?};
 ghost use Rattle.theory.specs.Terms.{Term, sort, h_def, lift as lift_term};
 ghost use Rattle.theory.specs.Environment.{Env, head_type_lem};
 ghost use Rattle.theory.specs.Reduction.{map_option};
-ghost use Rattle.reduction.specs.Store.{EnvAt, Stored};
+ghost use Rattle.reduction.specs.Store.{EnvAt};
 ghost use Rattle.kernel.specs.Machine.{ContextAt};
 ghost use Rattle.kernel.specs.Leaves.{LeafSays, ContextFits};
 
@@ -30,8 +30,7 @@ pub fn sort_type(heap: &mut [u32], top: usize, level: Level) -> Result<usize, Fa
 
 // The type of a definition or an axiom.
 pub fn head_type(env: Environment, i: u32, heap: &mut [u32], top: usize) -> Result<usize, Failure>
-    requires stored { Stored env.index.now env.store.now }
-    requires order { top ≤ length heap.old }
+    requires { top ≤ length heap.old }
     ensures { (e : Env) (stack : ℕ) → EnvAt env.entry.index.now env.entry.store.now e → LeafSays heap.old top stack heap.new (head_type_lem e (h_def i)) result }
 {
     match env.find_entry(i).ok_or(Failure::Refused)? {
