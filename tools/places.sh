@@ -18,7 +18,7 @@ p1b() { grep -nE '^ +(pub )?[a-z_]+: bool,$|let mut [a-z_]+ = (true|false);' $sr
 
 # 1c: a number written for a kind: compared with, matched, passed or stored as a tag.
 p1c() {
-    grep -nE '^ +[0-9]+ => |(tag|mark|tree\[[a-z]+\]|words\[[a-z]+\]|heap\[[a-z]+\]|stack\[[a-z]+\]|left\[[a-z]+\]|argument|store\[place\]) (==|!=|<) [0-9]+ |(push|push_named|push_two|push_three|push_mark|insert|bound|head|enter|push_frame|push_kept)\([^)]*, [0-9]+[,)]|\((11|13|14|15|5|6), |frames\[[^]]*\] = [0-9]+;|stack\[free\] = [0-9]+;|return 0;' $src
+    grep -nE '^ +[0-9]+ => |(tag|mark|tree\[[a-z]+\]|words\[[a-z]+\]|heap\[[a-z]+\]|stack\[[a-z]+\]|left\[[a-z]+\]|argument|store\[place\]) (==|!=|<) [0-9]+ |(push|push_named|push_two|push_three|push_mark|insert|bound|head|enter|push_frame|push_place)\([^)]*, [0-9]+[,)]|\((11|13|14|15|5|6), |frames\[[^]]*\] = [0-9]+;|stack\[free\] = [0-9]+;|return 0;' $src
 }
 
 # 2: functions with the same types of parameters and of the result (three at least are looked at by hand for twins).
