@@ -1,5 +1,4 @@
-use Rattle.std.proofs.Common.{rules}
-use Rattle.syntax.specs.declared.tag.Tag.TheVariants.{Name, Indexed, Sort, Pi, Lam, App}
+use Rattle.syntax.specs.declared.tag.Tag.TheVariants.{Name, Indexed, Sort, Pi, Lam}
 use Rattle.resolver.proofs.Shapes.{tagged, not_tagged, shape, plain_indexed, node_name, node_indexed, node_sort, node_pi, node_lam, node_app, plain_name}
 use Rattle.resolver.proofs.names.Names.node_sign.Goals as goal
 
