@@ -158,6 +158,7 @@ pub fn each_argument<E, F: FnMut(usize, Option<&[u8]>) -> Result<(), E>>(
     requires { F.IsAlwaysCallable visit }
 {
     let mut buf = [0u8; NAME_BYTES];
+    // How many arguments there are is not told beforehand; the range numbers them.
     for i in 1..usize::MAX {
         match env.arg(i, &mut buf) {
             Ok(len) => visit(i, Some(&buf[..len]))?,
