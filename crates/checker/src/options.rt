@@ -41,7 +41,7 @@ pub struct Options {
     // The steps and words that are allowed.
     pub steps: u64,
     pub words: u64,
-    // Standard input has names of files.
+    // Standard input has names of files: a switch, given or not.
     pub list: bool,
     // How many files the arguments name.
     pub files: u64,
@@ -70,7 +70,7 @@ pub enum Role {
 }
 
 impl Role {
-    // What an argument is, behind one with the role `before`.
+    // What an argument is, behind one with the role `before`; no From, since it takes both.
     pub fn of(before: Role, word: &str) -> Role
         ensures { result ≡ role_of before word.now }
     {

@@ -41,7 +41,7 @@ pub fn head_type(env: Environment, i: u32, heap: &mut [u32], top: usize) -> Resu
     }
 }
 
-// The type of a variable, lifted over the binders in between.
+// The type of a variable, lifted over the binders in between. Parts of the machine and not the machine: no clause need say what stays.
 pub fn variable_type(
     terms: &[u32],
     context: &[u32],

@@ -28,7 +28,7 @@ pub struct Resolved {
 #[derive(Clone, Copy, Debug, PartialEq, Eq)]
 pub struct Nowhere(pub usize);
 
-// What waits behind a node with parts.
+// What waits behind a node with parts; no From, since a sign is not a kind of frame.
 fn kind_of(sign: Sign) -> FrameKind
     ensures { kind_word result ≡ kind sign }
 {

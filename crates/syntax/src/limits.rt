@@ -28,7 +28,8 @@ pub fn first_too_deep(text: &[u8]) -> Option<usize>
     None
 }
 
-// A note of a declared name: how many bytes were left behind the name, the name, and the words of the notes behind it.
+// A note of a declared name: how many bytes were left behind the name, the name, and the words of the notes behind it. The notes stay words,
+// which are lent; that they are notes is a clause.
 #[derive(Clone, Copy, Debug, PartialEq, Eq)]
 pub struct NoteRead<'a> {
     pub left: usize,

@@ -23,7 +23,7 @@ pub enum Tag {
 }
 
 impl Tag {
-    // The tag with that number.
+    // The tag with that number, if one has it. The numbers of the words become tags here alone. No TryFrom: there is nothing to say of a failure.
     pub fn of(word: u32) -> Option<Tag>
         ensures { TagOf word result }
     {
