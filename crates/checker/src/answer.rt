@@ -13,7 +13,7 @@ use syntax::locate::{find_header, line_at, token_at};
 use syntax::parse::parse;
 use syntax::problem::{Problem, Stop};
 
-// Why not all declarations hold.
+// Why not all declarations hold. No error: it is what is said of a text.
 #[derive(Clone, Copy, Debug, PartialEq, Eq)]
 pub enum Reason {
     Refused,
@@ -37,7 +37,7 @@ pub struct Fault {
     pub what: &'static str,
 }
 
-// What is said of a text.
+// What is said of a text: the answers of the judge, each with what is written about it.
 #[derive(Clone, Copy, Debug, PartialEq, Eq)]
 pub enum Said<'a> {
     All(usize),

@@ -27,6 +27,7 @@ fn fill<R: Read>(source: &mut R, buf: &mut [u8]) -> io::Result<usize>
     ensures { IfOk result (λ n. n ≤ length buf.new) }
 {
     let mut at = 0;
+    // The source is read to its end, which no measure knows: the range only bounds the reads.
     for _ in 0..u64::MAX {
         if at == buf.len() {
             break;

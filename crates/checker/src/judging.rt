@@ -163,6 +163,7 @@ impl Judging {
         let mut name = Name::new();
         let mut stdin = rt.stdin();
         let mut buf = [0u8; NAME_BYTES];
+        // Standard input is read to its end, which no measure knows: the range only bounds the reads.
         for _ in 0..u64::MAX {
             match stdin.read(&mut buf) {
                 Ok(0) => break,

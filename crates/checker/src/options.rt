@@ -41,7 +41,7 @@ pub struct Options {
     // The steps and words that are allowed.
     pub steps: u64,
     pub words: u64,
-    // Standard input has names of files.
+    // Standard input has names of files: a switch, given or not.
     pub list: bool,
     // How many files the arguments name.
     pub files: u64,
@@ -70,7 +70,7 @@ pub enum Role {
 }
 
 impl Role {
-    // What an argument is, behind one with the role `before`.
+    // What an argument is, behind one with the role `before`; no From, since it takes both.
     pub fn of(before: Role, word: &str) -> Role
         ensures { result ≡ role_of before word.now }
     {
@@ -158,6 +158,7 @@ pub fn each_argument<E, F: FnMut(usize, Option<&[u8]>) -> Result<(), E>>(
     requires { F.IsAlwaysCallable visit }
 {
     let mut buf = [0u8; NAME_BYTES];
+    // How many arguments there are is not told beforehand; the range numbers them.
     for i in 1..usize::MAX {
         match env.arg(i, &mut buf) {
             Ok(len) => visit(i, Some(&buf[..len]))?,

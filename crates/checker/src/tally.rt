@@ -5,7 +5,7 @@ ghost use Rattle.checker.specs.Tallies.{outcome_of, stop_outcome, rank_of, add_u
 use crate::answer::{Reason, Said};
 use std::fmt;
 
-// What came of a text that was named.
+// What came of a text that was named. No Result: each is counted.
 #[derive(Clone, Copy, Debug, PartialEq, Eq)]
 pub enum Outcome {
     All,

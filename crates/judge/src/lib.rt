@@ -12,7 +12,7 @@ mod next;
 mod row;
 mod settle;
 
-// What came of a text.
+// What came of a text. No Result: each is an answer with numbers of its own, and none a failure of the call.
 #[derive(Clone, Copy)]
 pub enum Checked {
     // All of its declarations check, so many.

@@ -1,4 +1,5 @@
-// Judging the next declaration: its names resolved, its entry settled, and declared.
+// Judging the next declaration: its names resolved, its entry settled, and declared. Each slice is a region of the words that are lent, and
+// the parameters are no struct: which of them are written differs from call to call.
 ghost use Rattle.std.specs.Prelude.{ℕ, ◌+◌, ◌*◌, ◌^◌, ◌≤◌, List, ◌∷◌, length};
 ghost use Rattle.theory.specs.Environment as theory;
 ghost use Rattle.reduction.specs.Lookup.{Declared as Extends};

@@ -24,7 +24,7 @@ Above heap end stack a after (Some stop) = Appends heap end (put a []) after sto
 Above heap end stack a after None = (length heap < end + 3 * size a) ⊎ (stack < 3 * size a)
 
 -- The term a, of few variables, stands below the term c, which is on top.
-pub record Comparable (index store heap : List ℕ) (domain top end steps most : ℕ) : Type 0 where
+pub record Comparable (index store heap : List ℕ) (domain top end : ℕ) : Type 0 where
   pub env : Env
   pub env_at : PlainAt index store env
   pub closed : ClosedEnv env
@@ -38,11 +38,10 @@ pub record Comparable (index store heap : List ℕ) (domain top end steps most :
   pub scope : ℕ
   pub left_scoped : StaysScoped env scope left
   pub few : scope ≤ 2 ^ 61
-  pub order : steps ≤ most
 
 -- The term on top has few variables too.
-pub record Reducible (index store heap : List ℕ) (domain top end steps most : ℕ) : Type 0 where
-  pub pair : Comparable index store heap domain top end steps most
+pub record Reducible (index store heap : List ℕ) (domain top end : ℕ) : Type 0 where
+  pub pair : Comparable index store heap domain top end
   pub right_scoped : StaysScoped pair.env pair.scope pair.right
 
 -- The two are equal, or have one normal form; they have two.

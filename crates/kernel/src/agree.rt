@@ -9,6 +9,7 @@ ghost use Rattle.kernel.specs.Resting.{Above, Comparable, Reducible, Agrees, Agr
 
 use crate::failure::Limit;
 use crate::rested::to_normal;
+use reduction::budget::Budget;
 use reduction::store::Environment;
 use terms::copy::{copy_term, copy_words};
 use terms::walk::equal;
@@ -26,7 +27,7 @@ fn copy_above(heap: &mut [u32], at: usize, end: usize, stack: &mut [u32]) -> Opt
     Some(copy_words(stack, 0, count, heap, end))
 }
 
-// Compares the normal form that stands from `top` to `end` with that of the term at `domain`, to which `steps` were taken before.
+// Compares the normal form that stands from `top` to `end` with that of the term at `domain`; the budget is for that one.
 fn agree_normal(
     env: Environment,
     heap: &mut [u32],
@@ -34,19 +35,18 @@ fn agree_normal(
     top: usize,
     end: usize,
     stack: &mut [u32],
-    steps: u64,
-    most: u64,
+    budget: Budget,
 ) -> Result<bool, Limit>
-    requires { Comparable env.index.now env.store.now heap.old domain top end steps most }
+    requires { Comparable env.index.now env.store.now heap.old domain top end }
     ensures { (e : Env) (a c : Term) (rest : List ℕ) → PlainAt env.entry.index.now env.entry.store.now e → At heap.old domain a rest → domain + 3 * size a ≤ top → Stands heap.old top c end
-        → AgreesNormal e steps most heap.old top (length stack.old) a c heap.new result }
+        → AgreesNormal e budget.taken budget.most heap.old top (length stack.old) a c heap.new result }
 {
     let last = copy_above(heap, domain, end, stack).ok_or(Limit::NoRoom)?;
-    to_normal(env, heap, end, last, stack, steps, most)?;
+    to_normal(env, heap, end, last, stack, budget)?;
     Ok(equal(heap, top, heap, end))
 }
 
-// Compares the type that stands from `top` to `end` with the term at `domain`, to which `steps` were taken before.
+// Compares the type that stands from `top` to `end` with the term at `domain`; the budget is for that one.
 pub fn agree(
     env: Environment,
     heap: &mut [u32],
@@ -54,16 +54,19 @@ pub fn agree(
     top: usize,
     end: usize,
     stack: &mut [u32],
-    steps: u64,
-    most: u64,
+    budget: Budget,
 ) -> Result<bool, Limit>
-    requires { Reducible env.index.now env.store.now heap.old domain top end steps most }
+    requires { Reducible env.index.now env.store.now heap.old domain top end }
     ensures { (e : Env) (a c : Term) (rest : List ℕ) → PlainAt env.entry.index.now env.entry.store.now e → At heap.old domain a rest → domain + 3 * size a ≤ top → Stands heap.old top c end
-        → Agrees e steps most heap.old top (length stack.old) a c heap.new result }
+        → Agrees e budget.taken budget.most heap.old top (length stack.old) a c heap.new result }
 {
     if equal(heap, domain, heap, top) {
         return Ok(true);
     }
-    let stop = to_normal(env, heap, top, end, stack, 0, most)?;
-    agree_normal(env, heap, domain, top, stop, stack, steps, most)
+    let fresh = Budget {
+        taken: 0,
+        most: budget.most,
+    };
+    let stop = to_normal(env, heap, top, end, stack, fresh)?;
+    agree_normal(env, heap, domain, top, stop, stack, budget)
 }

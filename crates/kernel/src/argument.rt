@@ -10,6 +10,7 @@ use crate::failure::Failure;
 use crate::frames::Kind;
 use crate::machine::Machine;
 use crate::turn::{Spot, Turn};
+use reduction::budget::Budget;
 use terms::copy::copy_words;
 use terms::subst::subst;
 use terms::walk::end_of;
@@ -48,7 +49,11 @@ impl Machine<'_> {
     {
         let place = self.kept_number(spot.free + 1);
         let kept = self.kept_number(spot.free + 3);
-        let steps = self.kept_number(spot.free + 5) as u64;
+        let taken = self.kept_number(spot.free + 5) as u64;
+        let budget = Budget {
+            taken,
+            most: self.most,
+        };
         if !agree(
             self.env,
             self.heap,
@@ -56,8 +61,7 @@ impl Machine<'_> {
             spot.top,
             end,
             self.stack,
-            steps,
-            self.most,
+            budget,
         )? {
             return Err(Failure::Refused);
         }

@@ -16,6 +16,7 @@ use crate::agree::agree;
 use crate::failure::{Failure, Limit};
 use crate::machine::Machine;
 use crate::sorted::to_level;
+use reduction::budget::Budget;
 use terms::copy::copy_term;
 
 impl Machine<'_> {
@@ -42,7 +43,11 @@ impl Machine<'_> {
         // Reborrowed, since the call lends one field as `&` and one as `&mut`.
         let heap = &mut *self.heap;
         let end = copy_term(self.terms, at, heap, top).ok_or(Limit::NoRoom)?;
-        agree(self.env, self.heap, 0, top, end, self.stack, 0, self.most)
+        let budget = Budget {
+            taken: 0,
+            most: self.most,
+        };
+        agree(self.env, self.heap, 0, top, end, self.stack, budget)
     }
 
     // Is the body of the type, which is of a sort?

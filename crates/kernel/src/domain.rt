@@ -2,7 +2,7 @@
 ghost use Rattle.kernel.specs.Turns.{CanReturn, Falls, Keeps, Returns, Tagged};
 
 use crate::failure::Failure;
-use crate::frames::{Kind, push_level};
+use crate::frames::{Kind, push_kept};
 use crate::machine::Machine;
 use crate::sorted::to_level;
 use crate::turn::{Spot, Turn};
@@ -21,7 +21,7 @@ impl Machine<'_> {
         let level = to_level(self.env, self.heap, spot.top, end, self.stack, self.most)?;
         let place = self.kept_number(spot.free + 1);
         let names = push_number(self.context, spot.names, place);
-        let free = push_level(self.frames, spot.free + 3, level);
+        let free = push_kept(self.frames, spot.free + 3, Kind::UnderPi, level as usize);
         Ok(Turn::Down(Spot {
             names,
             free,

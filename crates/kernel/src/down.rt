@@ -4,7 +4,7 @@ ghost use Rattle.kernel.specs.Downs.{Enters};
 ghost use Rattle.kernel.specs.Turns.{CanGo, Falls, Goes, Keeps};
 
 use crate::failure::Failure;
-use crate::frames::{Kind, push_place};
+use crate::frames::{Kind, push_kept};
 use crate::leaf::{head_type, sort_type, variable_type};
 use crate::machine::Machine;
 use crate::turn::{Spot, Turn};
@@ -18,7 +18,7 @@ fn enter(frames: &mut [u32], spot: Spot, kind: Kind) -> Turn
     ensures { Enters frames.old frames.new spot kind result }
 {
     let at = spot.at + 3;
-    let free = push_place(frames, spot.free, kind, at);
+    let free = push_kept(frames, spot.free, kind, at);
     Turn::Down(Spot { at, free, ..spot })
 }
 

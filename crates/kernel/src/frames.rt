@@ -25,7 +25,7 @@ impl Kind {
         self as u32
     }
 
-    // The kind with this word.
+    // The kind with this word: the numbers of the words become kinds here alone.
     pub fn of(word: u32) -> Kind
         requires { word < 6 }
         ensures { kind_word result ≡ word }
@@ -41,27 +41,15 @@ impl Kind {
     }
 }
 
-// A kind and a place.
-pub fn push_place(frames: &mut [u32], free: usize, kind: Kind, place: usize) -> usize
+// A kind and what is kept: a place, or the domain's level for the codomain of a function type.
+pub fn push_kept(frames: &mut [u32], free: usize, kind: Kind, kept: usize) -> usize
     requires room { 3 ≤ free }
     requires within { free ≤ length frames.old }
-    ensures { Stacks frames.old free (kind_word kind ∷ number place []) frames.new result }
+    ensures { Stacks frames.old free (kind_word kind ∷ number kept []) frames.new result }
 {
-    let top = push_number(frames, free, place);
+    let top = push_number(frames, free, kept);
     frames[top - 1] = kind.word();
     top - 1
-}
-
-// The domain's level, for the codomain of a function type.
-pub fn push_level(frames: &mut [u32], free: usize, level: u32) -> usize
-    requires room { 3 ≤ free }
-    requires within { free ≤ length frames.old }
-    ensures { Stacks frames.old free (kind_word Kind.UnderPi ∷ level ∷ 0 ∷ []) frames.new result }
-{
-    frames[free - 1] = 0;
-    frames[free - 2] = level;
-    frames[free - 3] = Kind::UnderPi.word();
-    free - 3
 }
 
 // For an argument: its place, the place of the function type and the number of steps that led to it.
@@ -78,5 +66,5 @@ pub fn push_argument(
 {
     let below = push_number(frames, free, steps as usize);
     let top = push_number(frames, below, kept);
-    push_place(frames, top, Kind::Arg, place)
+    push_kept(frames, top, Kind::Arg, place)
 }

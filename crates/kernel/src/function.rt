@@ -6,6 +6,7 @@ use crate::frames::{Kind, push_argument};
 use crate::machine::Machine;
 use crate::rested::reduce_halved;
 use crate::turn::{Spot, Turn};
+use reduction::budget::Budget;
 use reduction::reduce::{Aim, Reduced};
 
 impl Machine<'_> {
@@ -17,6 +18,10 @@ impl Machine<'_> {
         ensures falls { Falls self.old (Turn.Back spot end) result }
         ensures keeps { Keeps self.old self.new }
     {
+        let budget = Budget {
+            taken: 0,
+            most: self.most,
+        };
         match reduce_halved(
             self.env,
             self.heap,
@@ -24,8 +29,7 @@ impl Machine<'_> {
             end,
             self.stack,
             Aim::ToPi,
-            0,
-            self.most,
+            budget,
         )? {
             Reduced::Reached(steps, stop) => {
                 let free = push_argument(self.frames, spot.free + 3, spot.at, spot.top, steps);

@@ -5,8 +5,7 @@ ghost use Rattle.std.proofs.Math.ListN.{get_elem?};
 ghost use Rattle.theory.specs.Terms.{Term, sort, h_def, lift as lift_term};
 ghost use Rattle.theory.specs.Environment.{Env, head_type_lem};
 ghost use Rattle.theory.specs.Reduction.{map_option};
-ghost use Rattle.terms.specs.Words.{At, Holds};
-ghost use Rattle.reduction.specs.Store.{EnvAt, Stored};
+ghost use Rattle.reduction.specs.Store.{EnvAt};
 ghost use Rattle.kernel.specs.Machine.{ContextAt};
 ghost use Rattle.kernel.specs.Leaves.{LeafSays, ContextFits};
 
@@ -29,29 +28,20 @@ pub fn sort_type(heap: &mut [u32], top: usize, level: Level) -> Result<usize, Fa
     Ok(push_sign(heap, top, Sign::Sort(Level(level.0 + 1))))
 }
 
-// A type that stands in the store.
-fn stored_type(store: &[u32], at: usize, heap: &mut [u32], top: usize) -> Result<usize, Failure>
-    requires stands { Holds store.now at }
-    requires order { top ≤ length heap.old }
-    ensures { (a : Term) (rest : List ℕ) (stack : ℕ) → At store.now at a rest → LeafSays heap.old top stack heap.new (some a) result }
-{
-    copy_term(store, at, heap, top).ok_or(Failure::NoRoom)
-}
-
 // The type of a definition or an axiom.
 pub fn head_type(env: Environment, i: u32, heap: &mut [u32], top: usize) -> Result<usize, Failure>
-    requires stored { Stored env.index.now env.store.now }
-    requires order { top ≤ length heap.old }
+    requires { top ≤ length heap.old }
     ensures { (e : Env) (stack : ℕ) → EnvAt env.entry.index.now env.entry.store.now e → LeafSays heap.old top stack heap.new (head_type_lem e (h_def i)) result }
 {
     match env.find_entry(i).ok_or(Failure::Refused)? {
-        Found::Definition(at, _) => stored_type(env.store, at, heap, top),
-        Found::Axiom(at) => stored_type(env.store, at, heap, top),
+        Found::Definition(at, _) | Found::Axiom(at) => {
+            copy_term(env.store, at, heap, top).ok_or(Failure::NoRoom)
+        }
         Found::Inductive(_) => Err(Failure::Refused),
     }
 }
 
-// The type of a variable, lifted over the binders in between.
+// The type of a variable, lifted over the binders in between. Parts of the machine and not the machine: no clause need say what stays.
 pub fn variable_type(
     terms: &[u32],
     context: &[u32],

@@ -8,10 +8,11 @@ ghost use Rattle.kernel.specs.Reducing.{Halts};
 ghost use Rattle.kernel.specs.Resting.{Rests};
 
 use crate::failure::Limit;
+use reduction::budget::Budget;
 use reduction::reduce::{Aim, Reduced, reduce};
 use reduction::store::Environment;
 
-// Reduces the term that stands from `at` to `end` towards the aim, with `count` steps taken before. It and those that call it take the heap and the
+// Reduces the term that stands from `at` to `end` towards the aim, within the budget. It and those that call it take the heap and the
 // stack alone, and not the machine: so its frames and its context stay as they are with no clause that says so.
 pub fn reduce_halved(
     env: Environment,
@@ -20,33 +21,29 @@ pub fn reduce_halved(
     end: usize,
     stack: &mut [u32],
     aim: Aim,
-    count: u64,
-    most: u64,
+    budget: Budget,
 ) -> Result<Reduced, Limit>
-    requires ready { Ready env.index.now env.store.now heap.old at end }
-    requires order { count ≤ most }
-    ensures { (e : Env) (t : Term) → PlainAt env.entry.index.now env.entry.store.now e → Stands heap.old at t end → Halts e aim count most heap.old at (length stack.old) t heap.new result }
+    requires { Ready env.index.now env.store.now heap.old at end }
+    ensures { (e : Env) (t : Term) → PlainAt env.entry.index.now env.entry.store.now e → Stands heap.old at t end → Halts e aim budget.taken budget.most heap.old at (length stack.old) t heap.new result }
 {
     let half = stack.len() / 2;
     let (scratch, rest) = stack.split_at_mut(half);
-    Ok(reduce(env, heap, at, end, scratch, rest, aim, count, most)?)
+    Ok(reduce(env, heap, at, end, scratch, rest, aim, budget)?)
 }
 
-// Where the normal form ends of the term that stands from `at` to `end`, with `count` steps taken before.
+// Where the normal form ends of the term that stands from `at` to `end`.
 pub fn to_normal(
     env: Environment,
     heap: &mut [u32],
     at: usize,
     end: usize,
     stack: &mut [u32],
-    count: u64,
-    most: u64,
+    budget: Budget,
 ) -> Result<usize, Limit>
-    requires ready { Ready env.index.now env.store.now heap.old at end }
-    requires order { count ≤ most }
-    ensures { (e : Env) (t : Term) → PlainAt env.entry.index.now env.entry.store.now e → Stands heap.old at t end → Rests e count most heap.old at (length stack.old) t heap.new result }
+    requires { Ready env.index.now env.store.now heap.old at end }
+    ensures { (e : Env) (t : Term) → PlainAt env.entry.index.now env.entry.store.now e → Stands heap.old at t end → Rests e budget.taken budget.most heap.old at (length stack.old) t heap.new result }
 {
-    match reduce_halved(env, heap, at, end, stack, Aim::ToNormal, count, most)? {
+    match reduce_halved(env, heap, at, end, stack, Aim::ToNormal, budget)? {
         Reduced::Reached(_, end) | Reduced::Resting(_, end) => Ok(end),
     }
 }

@@ -8,6 +8,7 @@ ghost use Rattle.kernel.specs.Reducing.{Sorts};
 
 use crate::failure::Failure;
 use crate::rested::reduce_halved;
+use reduction::budget::Budget;
 use reduction::reduce::{Aim, Reduced};
 use reduction::store::Environment;
 
@@ -23,7 +24,8 @@ pub fn to_level(
     requires ready { Ready env.index.now env.store.now heap.old at end }
     ensures { (e : Env) (t : Term) → PlainAt env.entry.index.now env.entry.store.now e → Stands heap.old at t end → Sorts e most heap.old at (length stack.old) t heap.new result }
 {
-    match reduce_halved(env, heap, at, end, stack, Aim::ToSort, 0, most)? {
+    let budget = Budget { taken: 0, most };
+    match reduce_halved(env, heap, at, end, stack, Aim::ToSort, budget)? {
         Reduced::Reached(_, _) => Ok(heap[at + 1]),
         Reduced::Resting(_, _) => Err(Failure::Refused),
     }

@@ -34,3 +34,7 @@ findable index store heap at end stack r l =
 pub step_found : (e : Env) (ws pre : List ℕ) (t : Term) (rest : List ℕ) (n : ℕ) (o : Option ℕ) → FindsStep e ws pre t rest o → HasStep e n t (Some (is_some o))
 step_found e ws pre t rest n None x = x
 step_found e ws pre t rest n (Some c) (u, is, _) = (u, is)
+
+-- What is ready ends within the heap.
+pub ready_within : {index store heap : List ℕ} {at end : ℕ} → Ready index store heap at end → (at ≤ end) × (end ≤ length heap)
+ready_within {heap} {at} {end} r = (omega (arith, r.stands.ends), stands_in heap at r.term end r.stands)

@@ -68,8 +68,9 @@ pub fn declare_axiom(
     Some(end)
 }
 
-// The table and the store stay two slices with how much of each is used: a struct of them would be built at each call, for that call alone.
-// The entry whose words behind the first three stand in the store.
+// The table and the store stay two slices with the numbers of what is used: a caller keeps the numbers between the calls, but lends the words
+// anew for each, so a struct of them would be built for one call alone.
+// The entry whose words behind the first three stand in the store, with the mark that `find_entry` reads: 0 a definition, 1 an axiom.
 fn enter(index: &mut [u32], count: usize, store: &mut [u32], used: usize, mark: u32, value: usize)
     requires table { 2 * (count + 1) ≤ length index.old }
     requires entry { used + 3 ≤ length store.old }

@@ -18,6 +18,7 @@ pub enum Kind {
     Last,
 }
 
+// The marks 0 and 1 are written and read in these two alone.
 impl Kind {
     // The number for it on the stack.
     fn mark(self) -> usize

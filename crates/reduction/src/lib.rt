@@ -3,6 +3,7 @@
 
 #![tactic(auto)]
 
+pub mod budget;
 pub mod declare;
 mod find;
 mod make;

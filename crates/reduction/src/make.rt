@@ -50,7 +50,7 @@ fn skip_terms(words: &[u32], at: usize, count: usize) -> usize
     ensures { (ts : List Term) (rest : List ℕ) → drop at words.now ≡ puts ts rest → count ≤ length ts → drop result words.now ≡ puts (drop count ts) rest }
 {
     let mut place = at;
-    for i in 0..count {
+    for _ in 0..count {
         place = end_of(words, place);
     }
     place

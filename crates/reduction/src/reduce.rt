@@ -7,6 +7,7 @@ ghost use Rattle.reduction.specs.Store.{EnvAt};
 ghost use Rattle.reduction.specs.Stepping.{Stands, Ready, Findable};
 ghost use Rattle.reduction.specs.Aims.{Reduces, Met, domain_rests_lem, resting, reduce_error};
 
+use crate::budget::Budget;
 use crate::find::find;
 use crate::step::{StepError, has_step, step};
 use crate::store::Environment;
@@ -82,8 +83,8 @@ fn at_rest(aim: Aim, steps: u64, end: usize) -> Reduced
     }
 }
 
-// Reduces the term that stands from `at` to `end` in place, in normal order, until it is of the aim's form or normal. `count` steps were taken
-// before; at most `most` are taken in all.
+// Reduces the term that stands from `at` to `end` in place, in normal order, until it is of the aim's form or normal. The steps taken are
+// counted on from those of the budget, up to its most.
 pub fn reduce(
     env: Environment,
     heap: &mut [u32],
@@ -92,15 +93,13 @@ pub fn reduce(
     scratch: &mut [u32],
     stack: &mut [u32],
     aim: Aim,
-    count: u64,
-    most: u64,
+    budget: Budget,
 ) -> Result<Reduced, ReduceError>
-    requires ready { Ready env.index.now env.store.now heap.old at end }
-    requires order { count ≤ most }
-    ensures { (e : Env) (t : Term) → EnvAt env.entry.index.now env.entry.store.now e → Stands heap.old at t end → Reduces e aim count most heap.old at (length scratch.old) (length stack.old) t heap.new result }
+    requires { Ready env.index.now env.store.now heap.old at end }
+    ensures { (e : Env) (t : Term) → EnvAt env.entry.index.now env.entry.store.now e → Stands heap.old at t end → Reduces e aim budget.taken budget.most heap.old at (length scratch.old) (length stack.old) t heap.new result }
 {
     let mut stop = end;
-    let mut steps = count;
+    let mut steps = budget.taken;
     'steps: loop {
         if stack.len() < stop - at {
             return Err(ReduceError::NoRoom);
@@ -108,7 +107,7 @@ pub fn reduce(
         if met(env, heap, at, stack, aim) {
             return Ok(Reduced::Reached(steps, stop));
         }
-        if steps == most {
+        if steps == budget.most {
             break 'steps;
         }
         let Some(next) = step(env, heap, at, stop, scratch, stack)? else {

@@ -31,6 +31,7 @@ impl From<WriteError> for StepError {
     }
 }
 
+// The heap, `at` and `end` stay apart here and above, with `Ready` as a clause: a ghost field beside a `&mut` slice gets no generated proof.
 // Has the term that stands from `at` to `end` a normal-order step? Nothing is written. None: the stack is too short to find out.
 pub fn has_step(
     env: Environment,

@@ -4,6 +4,7 @@ use mathlib.Core.Option as M
 use Rattle.std.specs.List.{filter, AllWithin, HoldsAt}
 use Rattle.std.specs.Option.{MatchOption}
 use Rattle.std.proofs.lemmas.Bool.{ne_eqb}
+use Rattle.std.proofs.lemmas.Option.{none-some}
 use Rattle.theory.specs.Terms.{option}
 use Rattle.theory.proofs.Options.{true-false}
 use Rattle.syntax.specs.Surface.{Name, same}
@@ -47,12 +48,12 @@ module _ (tree : List ℕ) (x : Name) where
     where
       go : (o : M.Option ℕ) → None ≡ option o None Some → None ≡ option (option o M.none (λ k. M.some (suc k))) None Some
       go M.none e = refl
-      go (M.some k) e = absurd (let z : ◌≡◌ {A = ℕ} 0 1 = cc in omega arith)
+      go (M.some k) e = absurd (none-some _ e)
   first_bound all {y = y} ys n g false s (Some zero) h = true-false (sym (h.1 [] y n) ∙ s)
   first_bound all ys n g false s (Some (suc i)) h = go (index_of ys x) (g (Some i) (omega (arith, h.0), (λ d. h.1 d), (λ k d u v. h.2 (suc k) d (omega arith) (omega arith))))
     where
       go : (o : M.Option ℕ) → Some i ≡ option o None Some → Some (suc i) ≡ option (option o M.none (λ k. M.some (suc k))) None Some
-      go M.none e = absurd (let z : ◌≡◌ {A = ℕ} 0 1 = cc in omega arith)
+      go M.none e = absurd (none-some _ (sym e))
       go (M.some k) e = ap Some (let z : suc i ≡ suc k = (let w : i ≡ k = cc in ap suc w) in z)
 
   -- The first with the name has the name's index.

@@ -2,12 +2,16 @@
 use Rattle.std.proofs.Common.{◌≡◌, ℕ, suc, ◌+◌, ◌≤◌, List, ◌∷◌, length, get_or, drop, Some, None, Option, sym, refl, ap, ◌∙◌, subst as tr, arith, length-drop}
 use mathlib.Core.Option as M
 use Rattle.std.proofs.lemmas.List.{drop-drop, drop_at}
+use Rattle.std.proofs.lemmas.Option.{none-some}
 use Rattle.theory.specs.Terms.{Head, var, const, option}
 use Rattle.theory.proofs.Options.{false-true}
 use Rattle.terms.specs.Words.{root}
 use Rattle.terms.specs.declared.sign.Sign.{Sign}
 use Rattle.terms.specs.declared.sign.Sign.TheVariants.{Pi, Lam, App, Var, Sort}
 use Rattle.syntax.specs.Surface.{Name, Expr, e_name, e_at, e_full, e_sort, e_pi, e_lam, e_app, e_hole, e_by, e_have}
+use Rattle.syntax.specs.Tags.{tag_word, TagOf}
+use Rattle.syntax.specs.declared.tag.Tag.{Tag}
+use Rattle.syntax.specs.declared.tag.Tag.TheVariants as T
 use Rattle.syntax.specs.Tree.{put_expr, put_name, put_numbers}
 use Rattle.elaboration.specs.Elaboration.{Global, lookup, index_of, indexed_head}
 use Rattle.resolver.specs.Resolving.{name_term, indexed_term}
@@ -29,6 +33,13 @@ indexed_name tree p x ns i = record { rest = put_numbers ns i.rest; stands = i.s
 
 pub indexed_numbers : (tree : List ℕ) (p : ℕ) (x : Name) (ns : List ℕ) → IndexedAt tree p x ns → NameAt tree (p + 1 + get_or tree p 0) ns
 indexed_numbers tree p x ns i = record { rest = i.rest; stands = name_behind tree p x _ i.stands }
+
+-- A word that is a tag's, and one that is not.
+pub tagged : {w : ℕ} {f : Tag} → TagOf w (Some f) → (t : Tag) → f ≡ t → w ≡ tag_word t
+tagged a t e = sym ((a t).0 (ap Some e))
+
+pub not_tagged : {w : ℕ} {f : Tag} → TagOf w (Some f) → (t : Tag) → (f ≡ t → ⊥) → w ≡ tag_word t → ⊥
+not_tagged {w} {f} a t n e = let h : ◌≡◌ {A = Option Tag} (Some f) (Some t) = (a t).1 (sym e) in let z : f ≡ t = cc in n z
 
 -- The forms of plain terms.
 pub data Shape (tree : List ℕ) (p : ℕ) : Expr → List ℕ → Type 0 where
@@ -79,6 +90,14 @@ module _ (tree : List ℕ) (p : ℕ) where
   shape_within (s_lam t s) = omega (arith, length-drop (p + 1) tree, ap length s)
   shape_within (s_app {f = f} {a = a} {rest = rest} t s) = omega (arith, length-drop (p + 1) tree, ap length s, expr_some f (put_expr a rest))
 
+  shape_tagged : {e : Expr} {rest : List ℕ} → Shape tree p e rest → TagOf (get_or tree p 0) None → ⊥
+  shape_tagged (s_name t s) a = none-some _ ((a T.Name).1 (sym t))
+  shape_tagged (s_at t s) a = none-some _ ((a T.Indexed).1 (sym t))
+  shape_tagged (s_sort t s) a = none-some _ ((a T.Sort).1 (sym t))
+  shape_tagged (s_pi t s) a = none-some _ ((a T.Pi).1 (sym t))
+  shape_tagged (s_lam t s) a = none-some _ ((a T.Lam).1 (sym t))
+  shape_tagged (s_app t s) a = none-some _ ((a T.App).1 (sym t))
+
   pub shape_named : {e : Expr} {rest : List ℕ} → Shape tree p e rest → (get_or tree p 0 ≡ 7 → ⊥) → (get_or tree p 0 ≡ 4 → ⊥) → Named tree (p + 1)
   shape_named (s_name {x = x} t s) u v = record { name = x; at = record { rest = _; stands = s } }
   shape_named (s_at {x = x} t s) u v = record { name = x; at = record { rest = _; stands = s } }
@@ -98,8 +117,14 @@ module _ (tree : List ℕ) (p : ℕ) where
   pub plain_within : Plain tree p → p + 2 ≤ length tree
   plain_within a = shape_within (shape tree p _ _ a.at)
 
+  pub plain_tagged : Plain tree p → TagOf (get_or tree p 0) None → ⊥
+  plain_tagged a = shape_tagged (shape tree p _ _ a.at)
+
   pub plain_named : Plain tree p → (get_or tree p 0 ≡ 7 → ⊥) → (get_or tree p 0 ≡ 4 → ⊥) → Named tree (p + 1)
   plain_named a = shape_named (shape tree p _ _ a.at)
+
+  pub plain_name : Plain tree p → get_or tree p 0 ≡ 1 → Named tree (p + 1)
+  plain_name a u = plain_named a (λ z. omega arith) (λ z. omega arith)
 
   pub plain_indexed : Plain tree p → get_or tree p 0 ≡ 2 → Indexed tree (p + 1)
   plain_indexed a = shape_indexed (shape tree p _ _ a.at)
@@ -213,7 +238,7 @@ pub name_bound : (gs : List Global) (ys : List Name) (x : Name) (n : ℕ) → So
 name_bound gs ys x n e = go (index_of ys x) e
   where
     go : (o : M.Option ℕ) → Some n ≡ option o None Some → Some (Var record { 0 = n }) ≡ term_sign (option o (option (lookup gs x) M.none (λ g. M.some (const g.head))) (λ k. M.some (var k)))
-    go M.none e = absurd (let z : ◌≡◌ {A = ℕ} 0 1 = cc in omega arith)
+    go M.none e = absurd (none-some _ (sym e))
     go (M.some k) e = cc
 
 pub name_free : (gs : List Global) (ys : List Name) (x : Name) → None ≡ index_found ys x → global_sign gs x ≡ term_sign (name_term gs ys x)
@@ -222,13 +247,13 @@ name_free gs ys x e = go (index_of ys x) e (lookup gs x)
     go : (o : M.Option ℕ) → None ≡ option o None Some → (q : M.Option Global) → option q None (λ g. Some (root (const g.head))) ≡ term_sign (option o (option q M.none (λ g. M.some (const g.head))) (λ k. M.some (var k)))
     go M.none e M.none = refl
     go M.none e (M.some g) = refl
-    go (M.some k) e q = absurd (let z : ◌≡◌ {A = ℕ} 0 1 = cc in omega arith)
+    go (M.some k) e q = absurd (none-some _ e)
 
 pub indexed_bound : (gs : List Global) (ys : List Name) (x : Name) (ns : List ℕ) (n : ℕ) → Some n ≡ index_found ys x → None ≡ term_sign (indexed_term gs ys x ns)
 indexed_bound gs ys x ns n e = go (index_of ys x) e
   where
     go : (o : M.Option ℕ) → Some n ≡ option o None Some → None ≡ term_sign (option o (option (indexed_head gs x ns) M.none (λ h. M.some (const h))) (λ k. M.none))
-    go M.none e = absurd (let z : ◌≡◌ {A = ℕ} 0 1 = cc in omega arith)
+    go M.none e = absurd (none-some _ (sym e))
     go (M.some k) e = refl
 
 pub indexed_free : (gs : List Global) (ys : List Name) (x : Name) (ns : List ℕ) → None ≡ index_found ys x → head_sign (indexed_head gs x ns) ≡ term_sign (indexed_term gs ys x ns)
@@ -237,4 +262,4 @@ indexed_free gs ys x ns e = go (index_of ys x) e (indexed_head gs x ns)
     go : (o : M.Option ℕ) → None ≡ option o None Some → (q : M.Option Head) → head_sign q ≡ term_sign (option o (option q M.none (λ h. M.some (const h))) (λ k. M.none))
     go M.none e M.none = refl
     go M.none e (M.some h) = refl
-    go (M.some k) e q = absurd (let z : ◌≡◌ {A = ℕ} 0 1 = cc in omega arith)
+    go (M.some k) e q = absurd (none-some _ e)

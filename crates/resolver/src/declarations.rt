@@ -9,6 +9,7 @@ ghost use Rattle.resolver.specs.Names.{GlobalsAt};
 ghost use Rattle.resolver.specs.Entries.{DeclAt, DeclStands, DeclSetting, DeclReady, DeclResolves};
 
 use crate::walk::{Nowhere, Resolved, resolve_term};
+use syntax::tag::Tag;
 use terms::sign::{Sign, push_sign};
 
 // A declaration is written: its type, then from `body` on its body, if it has one; up to `end`, and the tree goes on at `behind`.
@@ -56,7 +57,7 @@ pub fn resolve_declaration(
     let type_at = at + 3 + tree[at + 1] as usize;
     let top = stack.len();
     let a_type = resolve_term(tree, type_at, table, stack, top, out, start)?;
-    if tree[at] == 14 {
+    if tree[at] == Tag::Axiom as u32 {
         return Ok(Declared {
             body: None,
             end: a_type.end,

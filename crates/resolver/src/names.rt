@@ -8,7 +8,7 @@ use crate::walk::FrameKind;
 use terms::sign::{Sign, sign_at};
 
 // The names at hand: those that were declared, in the rows of a table, and those that are bound, in frames; both by their places in
-// the tree.
+// the tree. That they are is a clause: a ghost field may have one proof only, and frames can be read as names in several ways.
 #[derive(Clone, Copy)]
 pub struct Names<'a> {
     pub tree: &'a [u32],

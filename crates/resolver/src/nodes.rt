@@ -1,12 +1,14 @@
 // The nodes of plain terms: what each becomes, and where its parts begin.
-ghost use Rattle.std.specs.Prelude.{◌≡◌, ℕ, List};
+ghost use Rattle.std.specs.Prelude.{◌≡◌, ℕ, ◌+◌, ◌≤◌, List, length, Some, slice_index_or};
 ghost use Rattle.syntax.specs.Surface.{Name, Expr};
+ghost use Rattle.syntax.specs.Tags.{TagOf};
 ghost use Rattle.elaboration.specs.Elaboration.{Global, one_index_head, indexed_head};
 ghost use Rattle.resolver.specs.Resolving.{name_term, indexed_term};
 ghost use Rattle.resolver.specs.Names.{NameAt, Named, GlobalsAt, Tabled};
 ghost use Rattle.resolver.specs.Nodes.{term_sign, head_sign, recursor_sign, node_sign_lem, PlainAt, Plain, IndexedAt, Indexed, AreKnown, KnownAs, PartsAt};
 
 use crate::names::{Names, name_at};
+use syntax::tag::Tag;
 use terms::sign::{Index, Level, Sign};
 
 // The names that stand for something of themselves, a byte a word.
@@ -21,6 +23,18 @@ const ALONG: &[u32] = &[
     b'n' as u32,
     b'g' as u32,
 ];
+
+// The tag of the plain term that stands there.
+fn tag_at(tree: &[u32], place: usize) -> Tag
+    requires { Plain tree.now place }
+    ensures tag { TagOf (slice_index_or tree.now place 0) (Some result) }
+    ensures within { place + 2 ≤ length tree.now }
+{
+    let Some(tag) = Tag::of(tree[place]) else {
+        unreachable()
+    };
+    tag
+}
 
 // The recursor of a data type into Type i.
 fn recursor(sign: Sign, i: u32) -> Option<Sign>
@@ -92,12 +106,12 @@ impl Names<'_> {
         requires stands { Plain self.now.tree.now place }
         ensures { (gs : List Global) (ys : List Name) (e : Expr) (rest : List ℕ) → KnownAs self.now gs ys → PlainAt self.now.tree.now place e rest → result ≡ node_sign_lem gs ys e }
     {
-        match self.tree[place] {
-            1 => self.name_sign(place + 1),
-            2 => self.indexed_sign(place + 1),
-            4 => Some(Sign::Sort(Level(self.tree[place + 1]))),
-            5 => Some(Sign::Pi),
-            6 => Some(Sign::Lam),
+        match tag_at(self.tree, place) {
+            Tag::Name => self.name_sign(place + 1),
+            Tag::Indexed => self.indexed_sign(place + 1),
+            Tag::Sort => Some(Sign::Sort(Level(self.tree[place + 1]))),
+            Tag::Pi => Some(Sign::Pi),
+            Tag::Lam => Some(Sign::Lam),
             _ => Some(Sign::App),
         }
     }
@@ -108,16 +122,13 @@ pub fn parts_at(tree: &[u32], place: usize) -> usize
     requires { Plain tree.now place }
     ensures { (e : Expr) (rest : List ℕ) → PlainAt tree.now place e rest → PartsAt tree.now place e rest result }
 {
-    let tag = tree[place];
-    if tag == 7 {
-        return place + 1;
+    match tag_at(tree, place) {
+        Tag::App => place + 1,
+        Tag::Sort => place + 2,
+        Tag::Indexed => {
+            let behind = place + 2 + tree[place + 1] as usize;
+            behind + 1 + tree[behind] as usize
+        }
+        _ => place + 2 + tree[place + 1] as usize,
     }
-    if tag == 4 {
-        return place + 2;
-    }
-    let behind = place + 2 + tree[place + 1] as usize;
-    if tag == 2 {
-        return behind + 1 + tree[behind] as usize;
-    }
-    behind
 }

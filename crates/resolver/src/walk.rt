@@ -28,7 +28,7 @@ pub struct Resolved {
 #[derive(Clone, Copy, Debug, PartialEq, Eq)]
 pub struct Nowhere(pub usize);
 
-// What waits behind a node with parts.
+// What waits behind a node with parts; no From, since a sign is not a kind of frame.
 fn kind_of(sign: Sign) -> FrameKind
     ensures { kind_word result ≡ kind sign }
 {
@@ -39,6 +39,7 @@ fn kind_of(sign: Sign) -> FrameKind
 }
 
 // The second part of a node waits.
+// The stack, `free` and `top` are no struct: each method would also promise that top, length and the lent stack stay, which is longer.
 fn wait(stack: &mut [u32], free: usize, sign: Sign, name: usize) -> usize
     requires low { 2 ≤ free }
     requires within { free ≤ length stack.old }
@@ -75,6 +76,7 @@ fn enter(stack: &mut [u32], free: usize, top: usize) -> usize
 }
 
 // The term that stands there, its names resolved.
+// No struct of the parameters: the caller goes on with the stack and the output, and would take it apart after each call.
 pub fn resolve_term(
     tree: &[u32],
     at: usize,

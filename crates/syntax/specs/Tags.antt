@@ -1,5 +1,5 @@
 -- The tags of a tree's words, as numbers.
-use Rattle.std.specs.Prelude.{ℕ}
+use Rattle.std.specs.Prelude.{◌≡◌, ℕ, Some, Option}
 use Rattle.syntax.specs.declared.tag.Tag.{Tag}
 use Rattle.syntax.specs.declared.tag.Tag.TheVariants.{End, Name, Indexed, Full, Sort, Pi, Lam, App, Hole, By, Have, Param, Con, Def, Axiom, Data}
 
@@ -21,3 +21,7 @@ tag_word Con = 12
 tag_word Def = 13
 tag_word Axiom = 14
 tag_word Data = 15
+
+-- The tag whose number a word is, if it is one's.
+abbrev pub TagOf : ℕ → Option Tag → Type 0
+TagOf word o = (t : Tag) → (o ≡ Some t → tag_word t ≡ word) × (tag_word t ≡ word → o ≡ Some t)

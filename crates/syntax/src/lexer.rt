@@ -48,6 +48,7 @@ fn blank_len(bytes: &[u8]) -> usize
     ensures solid { Solid (drop result bytes.now) }
 {
     let mut n = 0;
+    // No `for` or iterator: a step skips one blank or a whole comment.
     while n < bytes.len() {
         if bytes[n] == b'#' {
             n += line_len(&bytes[n..]);

@@ -5,14 +5,17 @@ ghost use Rattle.syntax.specs.Declaring.{Note, note_words, ReadsNote, Later, Dis
 use crate::lexer::next_token;
 use crate::scan::is_token;
 
-// How many bytes are left where more than 64 brackets are open, if so many ever are.
+// The most brackets that may be open at once.
+const MOST_OPEN: usize = 64;
+
+// How many bytes are left where more brackets than that are open, if so many ever are.
 pub fn first_too_deep(text: &[u8]) -> Option<usize>
     ensures { Shallow text.now result }
 {
     let mut rest = text;
     let mut open: usize = 0;
     while let Some(cut) = next_token(rest) {
-        if open > 64 {
+        if open > MOST_OPEN {
             return Some(rest.len());
         }
         if is_token(cut.token, b"(") || is_token(cut.token, b"{") {
@@ -25,7 +28,8 @@ pub fn first_too_deep(text: &[u8]) -> Option<usize>
     None
 }
 
-// A note of a declared name: how many bytes were left behind the name, the name, and the words of the notes behind it.
+// A note of a declared name: how many bytes were left behind the name, the name, and the words of the notes behind it. The notes stay words,
+// which are lent; that they are notes is a clause.
 #[derive(Clone, Copy, Debug, PartialEq, Eq)]
 pub struct NoteRead<'a> {
     pub left: usize,

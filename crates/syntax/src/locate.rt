@@ -40,6 +40,7 @@ pub fn find_header(text: &[u8], n: usize) -> Option<Header<'_>>
 {
     let mut rest = text;
     let mut left = n;
+    // No `for`: each step cuts a token off the rest, and the place of a header is told from what is left.
     while let Some(cut) = next_token(rest) {
         rest = cut.rest;
         if let Token::Word(keyword) = cut.token {

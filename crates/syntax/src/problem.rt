@@ -27,7 +27,7 @@ pub enum Problem {
 }
 
 impl Problem {
-    // The problem in words.
+    // The problem in words. No Display: what is said of a text holds the words.
     pub fn text(self) -> &'static str
         ensures { result.now ≡ phrase self }
     {

@@ -101,6 +101,7 @@ fn arrow<'a>(bytes: &'a [u8], out: &mut Writer<'_>) -> Result<Link<'a>, Stop>
     let Some(rest) = eat(read.rest, b"->") else {
         return Ok(Link::Last(read));
     };
+    // A name of no bytes.
     out.insert(start, 0, 1);
     out.insert(start, Tag::Pi as u32, 1);
     Ok(Link::More(Read { rest, ..read }))

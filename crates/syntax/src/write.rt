@@ -4,7 +4,8 @@ ghost use Rattle.syntax.specs.Tags.{tag_word};
 
 use crate::tag::Tag;
 
-// A buffer that is lent, and how many of its words are written.
+// A buffer that is lent, and how many of its words are written. Room for more is a clause of each function, since it depends on the bytes
+// that are left; a ghost field beside a `&mut` gets no generated proof.
 #[derive(Drop)]
 pub struct Writer<'w> {
     pub words: &'w mut [u32],

@@ -2,3 +2,4 @@
 pub mod Words
 pub mod Writing
 pub mod Copying
+pub mod Rewriting

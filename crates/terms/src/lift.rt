@@ -1,12 +1,12 @@
 // Terms under more binders.
 ghost use Rattle.std.specs.Prelude.{◌≡◌, ℕ, ◌+◌, ◌-◌, ◌^◌, ◌<◌, ◌≤◌, List, length};
 ghost use Rattle.theory.specs.Terms.{Term, lift as lift_term};
-ghost use Rattle.terms.specs.Words.{At, HoldsSmall, SmallSign, lift_sign};
+ghost use Rattle.terms.specs.Words.{At, HoldsSmall, SmallSign, lift_sign, sign_words};
 ghost use Rattle.terms.specs.Copying.{Copies};
 
 use crate::copy::WriteError;
-use crate::number::{number_at, push_number};
-use crate::sign::{Index, Sign, push_sign, sign_at};
+use crate::rewrite::{Rule, put_sign, rewrite};
+use crate::sign::{Index, Sign};
 
 // The node of a lifted term.
 fn lifted(sign: Sign, cut: usize, by: usize) -> Sign
@@ -16,6 +16,31 @@ fn lifted(sign: Sign, cut: usize, by: usize) -> Sign
     match sign {
         Sign::Var(Index(x)) if x >= cut => Sign::Var(Index(x + by)),
         _ => sign,
+    }
+}
+
+// `by` added to the indices.
+#[derive(Drop)]
+struct Lifting {
+    by: usize,
+}
+
+impl Rule for Lifting {
+    ghost argument = { λ s u. Unit };
+
+    ghost words = { λ s u d x. sign_words (lift_sign d s.by x) };
+
+    ghost fits = { λ s d x. SmallSign (2 ^ 64 - s.by) x };
+
+    fn put(
+        &self,
+        sign: Sign,
+        depth: usize,
+        out: &mut [u32],
+        start: usize,
+        _stack: &mut [u32],
+    ) -> Result<usize, WriteError> {
+        put_sign(lifted(sign, depth, self.by), out, start)
     }
 }
 
@@ -35,29 +60,5 @@ pub fn lift(
     requires shallow { cut ≤ 2 ^ 63 }
     ensures { (t : Term) (rest : List ℕ) → At from.now at t rest → Copies out.old start out.new (length stack.old) (lift_term cut by t) result }
 {
-    // The loop of `subst` again: one for both would take what is put for a node as a closure, whose contract is longer than the loop.
-    let mut place = at;
-    let mut end = start;
-    let mut free = stack.len();
-    let mut depth = cut;
-    'nodes: loop {
-        if out.len() - end < 3 {
-            return Err(WriteError::NoRoom);
-        }
-        let sign = sign_at(from, place);
-        end = push_sign(out, end, lifted(sign, depth, by));
-        place += 3;
-        if sign.has_parts() {
-            if free < 2 {
-                return Err(WriteError::NoStack);
-            }
-            free = push_number(stack, free, sign.inner_depth(depth));
-        } else {
-            if free == stack.len() {
-                return Ok(end);
-            }
-            depth = number_at(stack, free);
-            free += 2;
-        }
-    }
+    rewrite(&Lifting { by }, from, at, cut, out, start, stack)
 }

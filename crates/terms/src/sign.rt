@@ -31,7 +31,7 @@ pub enum Sign {
     Along(u32, u32),
 }
 
-// The node that three words say.
+// The node that three words say. The numbers of the words become nodes here alone, and nodes numbers in `push_sign` alone.
 fn decode(tag: u32, low: u32, high: u32) -> Sign
     ensures { result ≡ sign_of tag low high }
 {

@@ -2,12 +2,12 @@
 ghost use Rattle.std.specs.Prelude.{◌≡◌, ℕ, ◌-◌, ◌^◌, ◌≤◌, List, length};
 ghost use Rattle.theory.specs.Terms.{Term, subst as subst_term};
 ghost use Rattle.terms.specs.Words.{At, Holds, HoldsSmall, subst_sign, subst_words};
-ghost use Rattle.terms.specs.Copying.{Copies, Writes};
+ghost use Rattle.terms.specs.Copying.{Copies};
 
 use crate::copy::WriteError;
 use crate::lift::lift;
-use crate::number::{number_at, push_number};
-use crate::sign::{Index, Sign, push_sign, sign_at};
+use crate::rewrite::{Rule, put_sign, rewrite};
+use crate::sign::{Index, Sign};
 
 // The node with a larger index one smaller, since the binder of `depth` is gone.
 fn lowered(sign: Sign, depth: usize) -> Sign
@@ -19,27 +19,33 @@ fn lowered(sign: Sign, depth: usize) -> Sign
     }
 }
 
-// A node of a body under `depth` binders, with the argument put for the variable `depth`.
-fn put_node(
-    sign: Sign,
-    depth: usize,
-    arg: &[u32],
+// The argument put for a variable.
+#[derive(Drop)]
+struct Substituting<'a> {
+    arg: &'a [u32],
     arg_at: usize,
-    out: &mut [u32],
-    start: usize,
-    stack: &mut [u32],
-) -> Result<usize, WriteError>
-    requires stands { HoldsSmall (2 ^ 64 - depth) arg.now arg_at }
-    requires order { start ≤ length out.old }
-    ensures { (u : Term) (rest : List ℕ) → At arg.now arg_at u rest → Writes out.old start out.new (length stack.old) (subst_words depth u sign) result }
-{
-    if sign == Sign::Var(Index(depth)) {
-        return lift(arg, arg_at, 0, depth, out, start, stack);
+}
+
+impl Rule for Substituting<'_> {
+    ghost argument = { λ s u. (rest : List ℕ) × At s.arg.now s.arg_at u rest };
+
+    ghost words = { λ s u d x. subst_words d u x };
+
+    ghost fits = { λ s d x. HoldsSmall (2 ^ 64 - d) s.arg.now s.arg_at };
+
+    fn put(
+        &self,
+        sign: Sign,
+        depth: usize,
+        out: &mut [u32],
+        start: usize,
+        stack: &mut [u32],
+    ) -> Result<usize, WriteError> {
+        if sign == Sign::Var(Index(depth)) {
+            return lift(self.arg, self.arg_at, 0, depth, out, start, stack);
+        }
+        put_sign(lowered(sign, depth), out, start)
     }
-    if out.len() - start < 3 {
-        return Err(WriteError::NoRoom);
-    }
-    Ok(push_sign(out, start, lowered(sign, depth)))
 }
 
 // The body that stands there with the argument put for the variable `index`.
@@ -60,25 +66,6 @@ pub fn subst(
     requires shallow { index ≤ 2 ^ 61 }
     ensures { (t u : Term) (x y : List ℕ) → At body.now at t x → At arg.now arg_at u y → Copies out.old start out.new (length stack.old) (subst_term index u t) result }
 {
-    let mut place = at;
-    let mut end = start;
-    let mut free = stack.len();
-    let mut depth = index;
-    'nodes: loop {
-        let sign = sign_at(body, place);
-        end = put_node(sign, depth, arg, arg_at, out, end, &mut stack[0..free])?;
-        place += 3;
-        if sign.has_parts() {
-            if free < 2 {
-                return Err(WriteError::NoStack);
-            }
-            free = push_number(stack, free, sign.inner_depth(depth));
-        } else {
-            if free == stack.len() {
-                return Ok(end);
-            }
-            depth = number_at(stack, free);
-            free += 2;
-        }
-    }
+    let rule = Substituting { arg, arg_at };
+    rewrite(&rule, body, at, index, out, start, stack)
 }

@@ -10,6 +10,7 @@ pub fn end_of(words: &[u32], at: usize) -> usize
     requires { Holds words.now at }
     ensures { (t : Term) (rest : List ℕ) → At words.now at t rest → result ≡ at + 3 * size t }
 {
+    // No `for` and no iterator: how many nodes come is known only as they are read.
     let mut place = at;
     let mut pending: usize = 1;
     while pending > 0 {

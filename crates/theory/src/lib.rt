@@ -1,4 +1,5 @@
-// The theorems about the rules. Each function stands for one: its contract is the statement, and without the proof the crate fails.
+// The theorems about the rules. Each function stands for one: its contract is the statement, and without the proof the crate fails. They
+// have no more in common than a body, so they are no generic one.
 
 #![tactic(auto)]
 

@@ -33,7 +33,6 @@ agree_normal-requires c =
       scope = p.scope;
       left_scoped = p.left_scoped;
       few = p.few;
-      order = p.order;
     }
 
 pub returns : goal.returns
@@ -46,4 +45,4 @@ returns c e a t rest at la lb s =
 pub returns-in_err-stop : goal.returns-in_err-stop
 returns-in_err-stop c e a t rest at la lb s =
     let (y, p, q) = err_from_is_err_and c.from_residual.result c.from_residual.ensures.1 in
-    rw (p, q) (upper_limited e _ _ _ _ _ a t c.to_normal.new.heap _ c.requires.pair.order (c.in_err-stop.ensures e t at s))
+    rw (p, q) (upper_limited e _ _ _ _ _ a t c.to_normal.new.heap _ c.args.budget.within (c.in_err-stop.ensures e t at s))

@@ -9,17 +9,14 @@ pub to_normal-requires : goal.to_normal-requires
 to_normal-requires c =
     let p = c.requires in
     record {
-      ready = record {
-        env = p.env;
-        term = p.left;
-        scope = p.scope;
-        env_at = p.env_at.at;
-        closed = p.closed;
-        stands = appended_stands _ _ _ _ p.left p.within (rw c.in_ok-last.ensures.ok_part at (c.copy_above.ensures p.left p.rest p.left_at));
-        scoped = p.left_scoped;
-        few = p.few;
-      };
-      order = p.order;
+      env = p.env;
+      term = p.left;
+      scope = p.scope;
+      env_at = p.env_at.at;
+      closed = p.closed;
+      stands = appended_stands _ _ _ _ p.left p.within (rw c.in_ok-last.ensures.ok_part at (c.copy_above.ensures p.left p.rest p.left_at));
+      scoped = p.left_scoped;
+      few = p.few;
     }
 
 pub equal-requires : goal.equal-requires
@@ -35,7 +32,7 @@ returns c e a t rest at la lb s =
     let w = rw c.in_ok-last.ensures.ok_part at (c.copy_above.ensures a rest la) in
     let (u, f, l, b) = c.in_ok-to_normal.ensures e a at (appended_stands _ _ _ _ a (stands_within _ _ _ _ s).1 w) in
     let q = pair c.args.heap.now c.copy_above.new.heap c.to_normal.new.heap _ _ _ _ t u _ s (omega arith) w b in
-    normal_compares e c.args.steps c.args.most _ _ (length c.args.stack.now) a t u _ _ f q.kept (c.equal.ensures t u _ _ (stands_at _ _ _ t q.lower) q.upper)
+    normal_compares e c.args.budget.taken c.args.budget.most _ _ (length c.args.stack.now) a t u _ _ f q.kept (c.equal.ensures t u _ _ (stands_at _ _ _ t q.lower) q.upper)
 
 pub returns-in_err-to_normal : goal.returns-in_err-to_normal
 returns-in_err-to_normal c e a t rest at la lb s =

@@ -1,13 +1,16 @@
-use Rattle.theory.specs.Environment.{defined, assumed}
-use Rattle.kernel.proofs.Written.{head_leaf}
+use Rattle.kernel.proofs.Written.{found_type, found_holds, copied_leaf}
 use Rattle.kernel.proofs.leaf.head_type.Goals as goal
 
-pub returns-in-Axiom : goal.returns-in-Axiom
-returns-in-Axiom c e stack at =
-    let (a, is, s) = rw (c.in_ok-at.ensures.ok_part, c.in-Axiom.is) at (c.find_entry.ensures e at) in
-    head_leaf _ _ _ stack e c.args.i (assumed a) c.stored_type-in-Axiom.result is (c.stored_type-in-Axiom.ensures a s.rest stack s.at)
+pub copy_term-requires : goal.copy_term-requires
+copy_term-requires c =
+    record {
+      stands = found_holds _ _ _ c.args.env.stored λ s.
+          let (a, rest, is, p) = found_type _ _ _ _ c.in-Definition.is (rw c.in_ok-at.ensures.ok_part at (c.find_entry.ensures s.env s.at)) in
+          record { term = a; rest = rest; at = p };
+      order = c.requires;
+    }
 
 pub returns-in-Definition : goal.returns-in-Definition
 returns-in-Definition c e stack at =
-    let (t, a, is, s, _) = rw (c.in_ok-at.ensures.ok_part, c.in-Definition.is) at (c.find_entry.ensures e at) in
-    head_leaf _ _ _ stack e c.args.i (defined t a) c.stored_type.result is (c.stored_type.ensures a s.rest stack s.at)
+    let (a, rest, is, p) = found_type _ _ _ _ c.in-Definition.is (rw c.in_ok-at.ensures.ok_part at (c.find_entry.ensures e at)) in
+    copied_leaf _ _ _ stack _ a is c.copy_term.result _ c.ok_or-in-Definition.ensures.value (c.copy_term.ensures a rest p)

@@ -19,13 +19,13 @@ pub returns-then-met : goal.returns-then-met
 returns-then-met c = run_reached c.steps.invariant (met_stands c.steps.heap c.args.at c.steps.stop c.args.aim true c.if-met.ensures)
 
 pub steps-preserved : goal.steps-preserved
-steps-preserved c = run_on c.steps.invariant (let z : c.steps.steps < c.args.most = omega (arith, c.if-steps-most.false, c.steps.invariant.within) in z)
+steps-preserved c = run_on c.steps.invariant (let z : c.steps.steps < c.args.budget.most = omega (arith, c.if-steps-budget.false, c.steps.invariant.within) in z)
     (met_stands c.steps.heap c.args.at c.steps.stop c.args.aim false c.if-met.ensures) (λ e t v s. rw c.in-Some.is at (c.in_ok-next.ensures e t v s)) c.step.auto.heap c.step.auto.scratch (c.step.auto.stack ∙ c.met.auto.stack)
 
 pub returns-in_err-next : goal.returns-in_err-next
 returns-in_err-next c = λ e t v s.
     let q = err_from_is_err_and c.from_residual.result c.from_residual.ensures.1 in
-    rw (q.1, q.2) (run_err c.steps.invariant (let z : c.steps.steps < c.args.most = omega (arith, c.if-steps-most.false, c.steps.invariant.within) in z) c.step.new.heap (length c.met.new.stack) c.in_err-next.field-0.0 c.met.auto.stack c.in_err-next.ensures e t v s)
+    rw (q.1, q.2) (run_err c.steps.invariant (let z : c.steps.steps < c.args.budget.most = omega (arith, c.if-steps-budget.false, c.steps.invariant.within) in z) c.step.new.heap (length c.met.new.stack) c.in_err-next.field-0.0 c.met.auto.stack c.in_err-next.ensures e t v s)
 
 pub returns-in_default : goal.returns-in_default
 returns-in_default c = λ e t v s.
@@ -34,7 +34,7 @@ returns-in_default c = λ e t v s.
     (normal_kept c.args.env.index.now c.args.env.store.now c.steps.heap c.step.new.heap c.args.at c.steps.stop c.steps.invariant.ready n) e t v s)
 
 pub returns-then-more : goal.returns-then-more
-returns-then-more c = λ e t v s. run_used c.steps.invariant c.if-steps-most.true (λ e t v s. more_steps e (length c.met.new.stack) t _ c.if-more.true (rw c.in_ok-more.ensures.ok_part at (c.has_step.ensures e t v s))) e t v s c.steps.heap
+returns-then-more c = λ e t v s. run_used c.steps.invariant c.if-steps-budget.true (λ e t v s. more_steps e (length c.met.new.stack) t _ c.if-more.true (rw c.in_ok-more.ensures.ok_part at (c.has_step.ensures e t v s))) e t v s c.steps.heap
 
 pub returns : goal.returns
 returns c = λ e t v s.

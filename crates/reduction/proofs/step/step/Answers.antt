@@ -1,19 +1,15 @@
 use Rattle.std.proofs.Common.{◌≡◌, ◌+◌, ◌≤◌, [], length, refl, arith, rules}
 use Rattle.std.proofs.lemmas.Result.{err_from_is_err_and}
 use Rattle.reduction.specs.declared.step.StepError.TheVariants.{NoRoom}
-use Rattle.reduction.proofs.Standing.{stands_in}
+use Rattle.reduction.proofs.Standing.{stands_in, ready_within}
 use Rattle.reduction.proofs.Replacing.{slice_is, slice_findable, slice_contractible, redex_there, heap_at, redex_ends, stepped_words, too_long, unstepped, unmade, made_within}
 use Rattle.reduction.proofs.step.step.Goals as goal
 
 pub offset_bounds-heap-at : goal.offset_bounds-heap-at
-offset_bounds-heap-at c =
-    let h : c.args.end ≤ length c.args.heap.now = stands_in c.args.heap.now c.args.at c.requires.term c.args.end c.requires.stands in
-    let k : c.args.at ≤ c.args.end = omega (arith, c.requires.stands.ends) in search rules
+offset_bounds-heap-at c = let (k, h) = ready_within c.requires in search rules
 
 pub slice_bounds-find-end : goal.slice_bounds-find-end
-slice_bounds-find-end c =
-    let h : c.args.end ≤ length c.args.heap.now = stands_in c.args.heap.now c.args.at c.requires.term c.args.end c.requires.stands in
-    let k : c.args.at ≤ c.args.end = omega (arith, c.requires.stands.ends) in search rules
+slice_bounds-find-end c = let (k, h) = ready_within c.requires in search rules
 
 pub find-requires : goal.find-requires
 find-requires c = slice_findable c.args.env.index.now c.args.env.store.now c.args.heap.now c.args.at c.args.end (length c.args.stack.now) c.requires c.if-stack-end.false
@@ -22,14 +18,10 @@ pub returns-in_default : goal.returns-in_default
 returns-in_default c = λ e t v s. (c.in_default.ensures e [] [] t v (slice_is c.args.heap.now c.args.at t c.args.end s) refl, unstepped c.args.heap.now c.args.at t c.args.end s)
 
 pub offset_bounds-heap-at-2 : goal.offset_bounds-heap-at-2
-offset_bounds-heap-at-2 c =
-    let h : c.args.end ≤ length c.args.heap.now = stands_in c.args.heap.now c.args.at c.requires.term c.args.end c.requires.stands in
-    let k : c.args.at ≤ c.args.end = omega (arith, c.requires.stands.ends) in search rules
+offset_bounds-heap-at-2 c = let (k, h) = ready_within c.requires in search rules
 
 pub slice_bounds-contract_into-end : goal.slice_bounds-contract_into-end
-slice_bounds-contract_into-end c =
-    let h : c.args.end ≤ length c.args.heap.now = stands_in c.args.heap.now c.args.at c.requires.term c.args.end c.requires.stands in
-    let k : c.args.at ≤ c.args.end = omega (arith, c.requires.stands.ends) in search rules
+slice_bounds-contract_into-end c = let (k, h) = ready_within c.requires in search rules
 
 pub contract_into-requires : goal.contract_into-requires
 contract_into-requires c =

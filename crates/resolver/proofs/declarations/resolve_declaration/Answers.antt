@@ -15,8 +15,8 @@ returns-in_err-a_type c gs d rest s =
     let w = (c.in_err-a_type.ensures gs _ _ _ (type_setting d rest s)).0 in
     rw (p.1, p.2) (no_type d rest s w.0, w.1)
 
-pub returns-then-tree-at-eq14 : goal.returns-then-tree-at-eq14
-returns-then-tree-at-eq14 c gs d rest s = axiom_written s (decl_shape _ _ d rest s.stands s.plain) c.if-tree-at-eq14.true (c.in_ok-a_type.ensures gs _ _ _ (type_setting d rest s)).0
+pub returns-then-tree-at : goal.returns-then-tree-at
+returns-then-tree-at c gs d rest s = axiom_written s (decl_shape _ _ d rest s.stands s.plain) c.if-tree-at.true (c.in_ok-a_type.ensures gs _ _ _ (type_setting d rest s)).0
 
 pub resolve_term-requires-2-clause-ready : goal.resolve_term-requires-2-clause-ready
 resolve_term-requires-2-clause-ready c =
@@ -26,7 +26,7 @@ resolve_term-requires-2-clause-ready c =
       scope = _;
       expr = _;
       rest = _;
-      setting = body_setting s (decl_shape _ _ _ _ s.stands s.plain) c.if-tree-at-eq14.false (c.in_ok-a_type.ensures _ _ _ _ (type_setting _ _ s)).0 c.resolve_term.auto.stack c.resolve_term.auto.out;
+      setting = body_setting s (decl_shape _ _ _ _ s.stands s.plain) c.if-tree-at.false (c.in_ok-a_type.ensures _ _ _ _ (type_setting _ _ s)).0 c.resolve_term.auto.stack c.resolve_term.auto.out;
     }
 
 pub returns-in_err-end : goal.returns-in_err-end
@@ -34,12 +34,12 @@ returns-in_err-end c gs d rest s =
     let p = err_from_is_err_and c.from_residual-in_err-end.result c.from_residual-in_err-end.ensures.1 in
     let k = decl_shape _ _ d rest s.stands s.plain in
     let w = (c.in_ok-a_type.ensures gs _ _ _ (type_setting d rest s)).0 in
-    let v = (c.in_err-end.ensures gs _ _ _ (body_setting s k c.if-tree-at-eq14.false w c.resolve_term.auto.stack c.resolve_term.auto.out)).0 in
-    rw (p.1, p.2) (no_body s k c.if-tree-at-eq14.false v.0, v.1)
+    let v = (c.in_err-end.ensures gs _ _ _ (body_setting s k c.if-tree-at.false w c.resolve_term.auto.stack c.resolve_term.auto.out)).0 in
+    rw (p.1, p.2) (no_body s k c.if-tree-at.false v.0, v.1)
 
 pub returns : goal.returns
 returns c gs d rest s =
     let k = decl_shape _ _ d rest s.stands s.plain in
     let w = (c.in_ok-a_type.ensures gs _ _ _ (type_setting d rest s)).0 in
-    let b = body_setting s k c.if-tree-at-eq14.false w c.resolve_term.auto.stack c.resolve_term.auto.out in
-    def_written s k c.if-tree-at-eq14.false w (c.in_ok-end.ensures gs _ _ _ b).0
+    let b = body_setting s k c.if-tree-at.false w c.resolve_term.auto.stack c.resolve_term.auto.out in
+    def_written s k c.if-tree-at.false w (c.in_ok-end.ensures gs _ _ _ b).0

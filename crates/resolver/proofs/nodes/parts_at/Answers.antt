@@ -1,40 +1,23 @@
 use Rattle.std.proofs.Common.{rules}
+use Rattle.syntax.specs.declared.tag.Tag.TheVariants.{Indexed, Sort, App}
 use Rattle.resolver.proofs.Naming.{named_within}
-use Rattle.resolver.proofs.Shapes.{shape, plain_within, plain_named, numbers_named, parts_app, parts_sort, parts_name, parts_indexed}
+use Rattle.resolver.proofs.Shapes.{tagged, not_tagged, shape, plain_named, numbers_named, parts_app, parts_sort, parts_name, parts_indexed}
 use Rattle.resolver.proofs.nodes.parts_at.Goals as goal
 
-pub offset_bounds-tree-place : goal.offset_bounds-tree-place
-offset_bounds-tree-place c = let h = plain_within _ _ c.requires in search rules
-
-pub bounds-tree-place : goal.bounds-tree-place
-bounds-tree-place c = let h = plain_within _ _ c.requires in search rules
-
-pub overflow_add-behind : goal.overflow_add-behind
-overflow_add-behind c = let h = plain_within _ _ c.requires in search rules
-
-pub overflow_add-behind-2 : goal.overflow_add-behind-2
-overflow_add-behind-2 c = let h = plain_within _ _ c.requires in search rules
-
-pub offset_bounds-tree-place-2 : goal.offset_bounds-tree-place-2
-offset_bounds-tree-place-2 c = let h = plain_within _ _ c.requires in search rules
-
-pub bounds-tree-place-2 : goal.bounds-tree-place-2
-bounds-tree-place-2 c = let h = plain_within _ _ c.requires in search rules
-
-pub overflow_add-behind-3 : goal.overflow_add-behind-3
-overflow_add-behind-3 c = let h = named_within _ _ (plain_named _ _ c.requires c.if-tag-eq7.false c.if-tag-eq4.false) in search rules
-
 pub bounds-tree-behind : goal.bounds-tree-behind
-bounds-tree-behind c = let h = named_within _ _ (numbers_named _ _ c.requires c.if-tag-eq2.true) in search rules
+bounds-tree-behind c = let h = named_within _ _ (numbers_named _ _ c.requires (tagged c.tag_at.ensures.tag Indexed c.in-Indexed.is)) in search rules
 
-pub returns-then-tag-eq7 : goal.returns-then-tag-eq7
-returns-then-tag-eq7 c e rest a = parts_app _ _ (shape _ _ _ _ a) c.if-tag-eq7.true
+pub overflow_add-result-in_default-3 : goal.overflow_add-result-in_default-3
+overflow_add-result-in_default-3 c = let h = named_within _ _ (plain_named _ _ c.requires (not_tagged c.tag_at.ensures.tag App c.in_default.not-App) (not_tagged c.tag_at.ensures.tag Sort c.in_default.not-Sort)) in search rules
 
-pub returns-then-tag-eq4 : goal.returns-then-tag-eq4
-returns-then-tag-eq4 c e rest a = parts_sort _ _ (shape _ _ _ _ a) c.if-tag-eq4.true
+pub returns-in-App : goal.returns-in-App
+returns-in-App c e rest a = parts_app _ _ (shape _ _ _ _ a) (tagged c.tag_at.ensures.tag App c.in-App.is)
 
-pub returns-then-tag-eq2 : goal.returns-then-tag-eq2
-returns-then-tag-eq2 c e rest a = parts_indexed _ _ (shape _ _ _ _ a) c.if-tag-eq2.true
+pub returns-in-Sort : goal.returns-in-Sort
+returns-in-Sort c e rest a = parts_sort _ _ (shape _ _ _ _ a) (tagged c.tag_at.ensures.tag Sort c.in-Sort.is)
 
-pub returns : goal.returns
-returns c e rest a = parts_name _ _ (shape _ _ _ _ a) c.if-tag-eq7.false c.if-tag-eq4.false c.if-tag-eq2.false
+pub returns-in-Indexed : goal.returns-in-Indexed
+returns-in-Indexed c e rest a = parts_indexed _ _ (shape _ _ _ _ a) (tagged c.tag_at.ensures.tag Indexed c.in-Indexed.is)
+
+pub returns-in_default : goal.returns-in_default
+returns-in_default c e rest a = parts_name _ _ (shape _ _ _ _ a) (not_tagged c.tag_at.ensures.tag App c.in_default.not-App) (not_tagged c.tag_at.ensures.tag Sort c.in_default.not-Sort) (not_tagged c.tag_at.ensures.tag Indexed c.in_default.not-Indexed)

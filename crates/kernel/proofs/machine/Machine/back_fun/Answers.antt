@@ -8,7 +8,7 @@ use Rattle.kernel.proofs.Moves.{frame-room}
 use Rattle.kernel.proofs.machine.Machine.back_fun.Goals as goal
 
 pub reduce_halved-requires : goal.reduce_halved-requires
-reduce_halved-requires c = record { ready = behind_ready c.requires.can.given c.requires.can.behind; order = omega arith }
+reduce_halved-requires c = behind_ready c.requires.can.given c.requires.can.behind
 
 pub push_argument-free-requires : goal.push_argument-free-requires
 push_argument-free-requires c =

@@ -16,14 +16,14 @@ kept_number-place-requires c = omega (arith, top_frame c.requires.can.behind.way
 pub push_number-names-requires : goal.push_number-names-requires
 push_number-names-requires c = record { low = name_room c.requires.can.behind.kept; within = omega (arith, c.requires.can.behind.kept.names_end) }
 
-pub push_level-free-requires : goal.push_level-free-requires
-push_level-free-requires c = record { room = omega arith; within = top_frame c.requires.can.behind.way c.requires.can.behind.kept c.requires.tagged.below }
+pub push_kept-free-requires : goal.push_kept-free-requires
+push_kept-free-requires c = record { room = omega arith; within = top_frame c.requires.can.behind.way c.requires.can.behind.kept c.requires.tagged.below }
 
 pub returns-clause-turned : goal.returns-clause-turned
 returns-clause-turned c k n b e =
     let (w, v) = c.in_ok-level.ensures k.env b.type n.stored b.stands in
     pi_sorted b.way (top_view b.way b.kept c.requires.tagged) b.kept b.at b.has (tr (λ m. Worked k.env is_sort m b.type (sort c.in_ok-level.level)) (sym e) w) v
-    c.kept_number-place.ensures c.push_number-names.ensures (omega arith) c.push_level-free.ensures (omega arith) (top_frame b.way b.kept c.requires.tagged.below)
+    c.kept_number-place.ensures c.push_number-names.ensures (omega arith) (omega arith) c.push_kept-free.ensures (omega arith) (top_frame b.way b.kept c.requires.tagged.below)
 
 pub returns-in_err-level-clause-turned : goal.returns-in_err-level-clause-turned
 returns-in_err-level-clause-turned c k n b e =

@@ -37,8 +37,7 @@ sort_type-requires c =
     record { small = core_level (view b.term (sym (c.in-Sort.ensures b.term _ (before_at b)))) (walk_core c.requires.given.sensible.core b.way); order = top_within b.way b.kept }
 
 pub head_type-requires : goal.head_type-requires
-head_type-requires c =
-    record { stored = record { env = c.requires.task.env; at = c.requires.given.stored.at }; order = top_within c.requires.before.way c.requires.before.kept }
+head_type-requires c = top_within c.requires.before.way c.requires.before.kept
 
 pub past-requires : goal.past-requires
 past-requires c = omega (arith, before_within c.requires.before)

@@ -31,7 +31,6 @@ agree-requires c =
         scope = 0;
         left_scoped = p.left_scoped;
         few = omega arith;
-        order = omega arith;
       };
       right_scoped = p.right_scoped;
     }
