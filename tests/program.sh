@@ -186,6 +186,116 @@ text 'Type and a number were expected' 1 'data nat : nat { }'
 text 'again was expected' 1 'data nat : Type 0 { zero; }'
 text 'a step of a script was expected' 1 'def t : Type 1 := by { Type 0; };'
 
+# The core: what must be refused, each at its line, and what holds before it.
+# A bound name caught by another.
+cat > alpha.txt <<'END'
+axiom nat : Type 0;
+axiom zero : nat;
+def first : nat -> nat -> nat := fun (x : nat) => fun (y : nat) => x;
+def second : nat -> nat -> nat := fun (x : nat) => fun (y : nat) => y;
+def as_first : nat -> nat -> nat := fun (y : nat) => fun (x : nat) => y;
+theorem renamed : (P : (nat -> nat -> nat) -> Type 0) -> P first -> P as_first := fun (P : (nat -> nat -> nat) -> Type 0) => fun (p : P first) => p;
+theorem caught : (P : (nat -> nat -> nat) -> Type 0) -> P first -> P second := fun (P : (nat -> nat -> nat) -> Type 0) => fun (p : P first) => p;
+END
+refused alpha.txt 0 7 6 'theorem caught'
+head -n 6 alpha.txt > alpha_holds.txt
+holds alpha_holds.txt 0 6
+# A term put under a binder and not lifted.
+cat > under.txt <<'END'
+axiom nat : Type 0;
+def constant : nat -> nat -> nat := fun (x : nat) => fun (y : nat) => x;
+theorem lifted : (P : (nat -> nat) -> Type 0) -> (y : nat) -> P (constant y) -> P (fun (x : nat) => y) := fun (P : (nat -> nat) -> Type 0) => fun (y : nat) => fun (p : P (constant y)) => p;
+theorem unlifted : (P : (nat -> nat) -> Type 0) -> (y : nat) -> P (constant y) -> P (fun (y : nat) => y) := fun (P : (nat -> nat) -> Type 0) => fun (y : nat) => fun (p : P (constant y)) => p;
+END
+refused under.txt 0 4 3 'theorem unlifted'
+head -n 3 under.txt > under_holds.txt
+holds under_holds.txt 0 3
+# Definitions unfolded on either side.
+cat > unfold.txt <<'END'
+axiom nat : Type 0;
+axiom zero : nat;
+axiom next : nat -> nat;
+def one : nat := next zero;
+def uno : nat := next zero;
+theorem left : (P : nat -> Type 0) -> P one -> P (next zero) := fun (P : nat -> Type 0) => fun (p : P one) => p;
+theorem right : (P : nat -> Type 0) -> P (next zero) -> P one := fun (P : nat -> Type 0) => fun (p : P (next zero)) => p;
+theorem both : (P : nat -> Type 0) -> P one -> P uno := fun (P : nat -> Type 0) => fun (p : P one) => p;
+theorem neither : (P : nat -> Type 0) -> P one -> P zero := fun (P : nat -> Type 0) => fun (p : P one) => p;
+END
+refused unfold.txt 0 9 8 'theorem neither'
+head -n 8 unfold.txt > unfold_holds.txt
+holds unfold_holds.txt 0 8
+# The inner of two bindings of a name.
+cat > inner.txt <<'END'
+axiom nat : Type 0;
+axiom row : Type 0 -> Type 0;
+def names : nat -> row nat -> row nat := fun (x : nat) => fun (x : row nat) => x;
+theorem outer : nat -> row nat -> nat := fun (x : nat) => fun (x : row nat) => x;
+END
+refused inner.txt 0 4 3 'theorem outer'
+head -n 3 inner.txt > inner_holds.txt
+holds inner_holds.txt 0 3
+# A sort of itself.
+cat > levels.txt <<'END'
+def small : Type 1 := Type 0;
+theorem self : Type 1 := Type 1;
+END
+refused levels.txt 0 2 1 'theorem self'
+head -n 1 levels.txt > levels_holds.txt
+holds levels_holds.txt 0 1
+# A function type in the sort that it goes over.
+cat > levels2.txt <<'END'
+def all : Type 1 := (A : Type 0) -> A -> A;
+theorem itself : Type 0 := (A : Type 0) -> A -> A;
+END
+refused levels2.txt 0 2 1 'theorem itself'
+head -n 1 levels2.txt > levels2_holds.txt
+holds levels2_holds.txt 0 1
+# A name that is nowhere.
+cat > nowhere.txt <<'END'
+axiom nat : Type 0;
+theorem t : nat -> nat := fun (x : nat) => y;
+END
+refused nowhere.txt 0 2 1 'theorem t'
+head -n 1 nowhere.txt > nowhere_holds.txt
+holds nowhere_holds.txt 0 1
+# A name that is declared later.
+cat > after.txt <<'END'
+def t : Type 1 := u;
+def u : Type 1 := Type 0;
+END
+refused after.txt 0 1 0 'def t'
+# What is no function, applied.
+cat > noargs.txt <<'END'
+axiom nat : Type 0;
+axiom zero : nat;
+theorem t : nat := zero zero;
+END
+refused noargs.txt 0 3 2 'theorem t'
+head -n 2 noargs.txt > noargs_holds.txt
+holds noargs_holds.txt 0 2
+# A term that would reduce for ever has no type.
+cat > loop.txt <<'END'
+theorem omega : Type 0 := (fun (x : Type 0) => x x) (fun (x : Type 0) => x x);
+END
+refused loop.txt 0 1 0 'theorem omega'
+# Steps: as many as are needed, and one fewer. Words: too few for what a term comes to.
+holds sums.txt 0 10
+if [ 0 -lt "$landed" ]; then
+    expect 1 'sums.txt:10: spent after 8: theorem two_and_two' '' --steps 22 sums.txt
+    expect 1 'sums.txt:11: spent after 9: theorem ten_times_ten' '' --steps 23 sums.txt
+    expect 1 'sums.txt:11: spent after 9: theorem ten_times_ten' '' --steps 620 sums.txt
+    expect 0 'sums.txt: all 10' '' --steps 621 sums.txt
+    expect 1 'powers.txt:9: no room after 7: theorem large' '' --words 90000 powers.txt
+fi
+# The largest texts that are one chain, to the right and to the left.
+{ printf 'axiom a : Type 0; axiom b : '; repeat 8000 'a->'; printf 'a;'; } > right.txt
+holds right.txt 0 2
+{ printf 'axiom a : Type 0; axiom f : a -> a; axiom x : a; axiom p : a -> Type 0; axiom t : p ('; repeat 60 'f('; printf 'x'; repeat 60 ')'; printf ');'; } > inside.txt
+holds inside.txt 0 5
+{ printf 'axiom a : Type 0; axiom x : a; axiom f : '; repeat 5000 'a->'; printf 'a; def t : a := f'; repeat 5000 ' x'; printf ';'; } > left.txt
+holds left.txt 0 4
+
 # Standard input, options, what cannot be read.
 if [ 0 -lt "$landed" ]; then all=0; else all=1; fi
 cp id.txt in

@@ -1,7 +1,6 @@
 -- The next declaration's entry, written behind the store: its terms stand there, it can be given to the kernel, and what the kernel
 -- finds of it is found of the declaration.
-use Rattle.std.proofs.Common.{◌≡◌, ℕ, ◌+◌, ◌*◌, ◌/◌, ◌-◌, ◌<◌, ◌≤◌, true, List, [], ◌∷◌, ◌++◌, length, take, drop, Some, None, Option, Ok, Err, sym, refl, ap, ◌∙◌, subst as tr, length-append, length-drop, length-take, arith}
-use Rattle.theory.specs.Terms.{Term, size}
+use Rattle.std.proofs.Common.{◌≡◌, ℕ, ◌+◌, ◌*◌, ◌/◌, ◌-◌, ◌≤◌, true, List, [], ◌∷◌, ◌++◌, length, take, drop, Option, Err, sym, refl, ap, ◌∙◌, subst as tr, length-append, length-drop, length-take, arith}
 use Rattle.theory.proofs.Options.{false-true}
 use Rattle.theory.specs.Environment.{Entry, defined, assumed, inductive, Env}
 use Rattle.theory.specs.Question.{entry_size}
@@ -13,11 +12,11 @@ use Rattle.terms.proofs.Nodes.{put_append}
 use Rattle.terms.proofs.Subterms.{at_next}
 use Rattle.terms.proofs.Appending.{append_keeps, append_stands}
 use Rattle.syntax.specs.Surface.{Decl, d_def, d_axiom, d_data, decl_names, names_of}
-use Rattle.syntax.specs.Tree.{put_decl, put_decls}
+use Rattle.syntax.specs.Tree.{put_decls}
 use Rattle.elaboration.specs.Elaboration.{Global}
-use Rattle.elaboration.specs.Declarations.{Admissible, ConvEntry, conv_defined, conv_assumed, Forced, globals_of}
+use Rattle.elaboration.specs.Declarations.{ConvEntry, conv_defined, conv_assumed, Forced, globals_of}
 use Rattle.elaboration.proofs.ChecksWf.{checks_wf}
-use Rattle.resolver.specs.Entries.{decl_nodes, put_entry, DeclStands, DeclWritten, DeclSetting}
+use Rattle.resolver.specs.Entries.{decl_nodes, put_entry, DeclWritten, DeclSetting}
 use Rattle.resolver.specs.declared.declarations.Declared.{Declared as Written}
 use Rattle.reduction.specs.Store.{EnvAt}
 use Rattle.reduction.specs.Lookup.{Declared as Extends}
@@ -27,7 +26,7 @@ use Rattle.kernel.specs.Checking.{CoreEntry}
 use Rattle.kernel.specs.declared.failure.Failure.{Failure}
 use Rattle.kernel.specs.declared.failure.Failure.TheVariants.{Refused, Spent, NoRoom}
 use Rattle.reduction.proofs.Declaring.{env_longer}
-use Rattle.judge.specs.Judging.{BodyAt, with_body, no_body, Ordered, TermsAt, definition_at, axiom_at, Judging, Entering, Settles, StandsFor, Steps}
+use Rattle.judge.specs.Judging.{BodyAt, with_body, no_body, Ordered, TermsAt, definition_at, axiom_at, Judging, Entering, Settles, Steps}
 use Rattle.judge.proofs.Standings.{go_on}
 use Rattle.judge.specs.declared.row.Spot.{Spot}
 use Rattle.judge.proofs.Going.{Next, next, entry_long, checks_plain}

@@ -1,13 +1,10 @@
 -- Judging along a row of declarations: where it begins, goes on and ends.
-use Rattle.std.proofs.Common.{◌≡◌, ℕ, zero, suc, ◌+◌, ◌*◌, ◌<◌, ◌≤◌, List, [], ◌∷◌, ◌++◌, length, take, Ok, Err, refl, sym, ap, ◌∙◌, subst as tr, length-append, length-take, append_assoc, append-nil, leb, arith}
+use Rattle.std.proofs.Common.{◌≡◌, ℕ, ◌+◌, ◌*◌, ◌<◌, ◌≤◌, List, [], ◌∷◌, ◌++◌, length, take, Ok, Err, refl, ap, ◌∙◌, subst as tr, length-append, length-take, append_assoc, leb, arith}
 use Rattle.std.proofs.lemmas.Bool.{leb-true, leb-false}
-use mathlib.Core.Option.{some}
-use lib.ListN.{get_elem?}
-use Rattle.theory.specs.Environment.{Entry, Env}
+use Rattle.theory.specs.Environment.{Env}
 use Rattle.theory.proofs.Options.{none-some, cases_bool}
 use Rattle.syntax.proofs.WholeText.{too_long}
-use Rattle.syntax.specs.Surface.{Decl, d_def, d_axiom, d_data, decl_names, names_of, stage}
-use Rattle.syntax.specs.Tree.{put_decls}
+use Rattle.syntax.specs.Surface.{Decl, d_def, d_axiom, d_data, names_of, stage}
 use Rattle.syntax.specs.Grammar.{Reads}
 use Rattle.syntax.specs.Declaring.{ParsedPost}
 use Rattle.syntax.specs.declared.parse.Parsed.{Parsed}
@@ -101,7 +98,7 @@ can_judge {t} {tree} {index} {table} {store} {words} {s} {n} {ds} a l = at a.res
 -- It goes on behind the next.
 pub along_next : {t tree index table store index' table' store' : List ℕ} {words words' n : ℕ} {s s' : Spot} {ds : List Decl} (most w : ℕ) → Along t tree index table store words s n ds → n < length ds
     → ((done : List Decl) (d : Decl) (rest : List Decl) (gs : List Global) (e : Env) → Judging t tree index table store words s done (d ∷ rest) gs e
-      → Steps t tree index' table' store' words' most w done d rest gs e (Ok s'))
+    → Steps t tree index' table' store' words' most w done d rest gs e (Ok s'))
     → Along t tree index' table' store' words' s' (n + 1) ds
 along_next {t} {tree} {index} {table} {store} {index'} {table'} {store'} {words} {words'} {n} {s} {s'} {ds} most w a l f = at a.rest a.judging a.whole
   where
@@ -115,7 +112,7 @@ along_next {t} {tree} {index} {table} {store} {index'} {table'} {store'} {words}
 pub stops : {t tree index table store : List ℕ} {words n : ℕ} {s : Spot} {ds : List Decl} (index' table' store' : List ℕ) (words' most w : ℕ) → Along t tree index table store words s n ds → n < length ds → (f : Failure) (all : ℕ)
     → all ≤ 65536 + (16 * length t + w)
     → ((done : List Decl) (d : Decl) (rest : List Decl) (gs : List Global) (e : Env) → Judging t tree index table store words s done (d ∷ rest) gs e
-      → Steps t tree index' table' store' words' most w done d rest gs e (Err f))
+    → Steps t tree index' table' store' words' most w done d rest gs e (Err f))
     → CheckedSays t most all (stop_answer f n)
 stops {t} {tree} {index} {table} {store} {words} {n} {s} {ds} index' table' store' words' most w a l f all m h =
     tr (λ (k : ℕ). CheckedSays t most all (stop_answer f k)) a.counted (at a.rest a.judging a.whole)

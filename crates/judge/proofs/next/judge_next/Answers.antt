@@ -1,7 +1,7 @@
-use Rattle.std.proofs.Common.{◌≡◌, ℕ, length, Some, None, Ok, Err, refl, sym, subst as tr, arith}
+use Rattle.std.proofs.Common.{◌≡◌, length, Some, None, refl, subst as tr, arith}
 use Rattle.std.proofs.lemmas.Result.{err_from_is_err_and}
 use Rattle.kernel.specs.declared.failure.Failure.TheVariants.{Refused}
-use Rattle.judge.specs.Judging.{EntryWritten, Enters, Settles}
+use Rattle.judge.specs.Judging.{EntryWritten}
 use Rattle.judge.proofs.Entering.{known, setting, ends, entering, ordered, failed, moved, room}
 use Rattle.judge.proofs.next.judge_next.Goals as goal
 
@@ -64,6 +64,8 @@ declare-more-requires-clause-stands c =
 pub returns : goal.returns
 returns c t done d rest gs e j =
     let s : c.resolve_next.result ≡ Some c.in_ok-entry.entry = grind arith in
-    let (k, x, b) = tr (EntryWritten _ _ _ _ _ _ _) s (c.resolve_next.ensures gs d _ (setting j c.args.names.now refl)) in
-    (k, moved j x b c.enter.new.index c.declare-more.new.table c.enter.new.store (length c.resolve_next.new.names) c.declare-more.result _ (omega arith) (omega arith) (omega arith) (omega arith) c.declare-more.ensures.ends refl
-    (c.in_ok-settle.ensures e k (entering j x b)) (c.enter.ensures k b) (c.declare-more.ensures.adds gs d j.globals (record { rest = _; stands = j.tree_at; bare = (known j).shown })))
+    let (k, x, b) = tr (EntryWritten _ _ _ _ _ _ _) s (c.resolve_next.ensures gs d _ (setting j c.args.names.now refl)) in (
+      k,
+      moved j x b c.enter.new.index c.declare-more.new.table c.enter.new.store (length c.resolve_next.new.names) c.declare-more.result _ (omega arith) (omega arith) (omega arith) (omega arith) c.declare-more.ensures.ends refl
+          (c.in_ok-settle.ensures e k (entering j x b)) (c.enter.ensures k b) (c.declare-more.ensures.adds gs d j.globals (record { rest = _; stands = j.tree_at; bare = (known j).shown })),
+    )

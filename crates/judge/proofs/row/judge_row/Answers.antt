@@ -1,4 +1,4 @@
-use Rattle.std.proofs.Common.{ℕ, length, length-append, arith, ap, ◌∙◌}
+use Rattle.std.proofs.Common.{length, length-append, arith, ap, ◌∙◌}
 use Rattle.judge.proofs.Sizes.{decls_few}
 use Rattle.judge.proofs.Rows.{along_first, can_judge, along_next, stops, ends}
 use Rattle.judge.proofs.row.judge_row.Goals as goal
