@@ -1,6 +1,6 @@
 -- Weak-head steps: the redex at the head of a spine, or in the last argument that a recursor or an elimination needs.
 -- A weak-head step is the normal-order step, and a term that takes one is no variable, sort, function type or function.
-use Rattle.std.proofs.Common.{◌≡◌, refl, sym, ap, ◌∙◌, Bool, true, false, List, [], ◌∷◌, ℕ, suc, ◌<◌, arith, length, eqb, eqb-true, ne_eqb}
+use Rattle.std.proofs.Common.{◌+◌, ◌≡◌, refl, sym, ap, ◌∙◌, Bool, true, false, List, [], ◌∷◌, ℕ, suc, ◌<◌, arith, length, eqb, eqb-true, ne_eqb}
 use mathlib.Core.Option.{some, none}
 use Rattle.theory.proofs.Options.{none-some, some_inj, false-true, cases_option, cases_bool, bind-some, option-true}
 use Rattle.theory.proofs.Iota.{spine_head, spine-args, last_append, beta-some, contract-some}
