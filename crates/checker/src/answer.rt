@@ -37,7 +37,7 @@ pub struct Fault {
     pub what: &'static str,
 }
 
-// What is said of a text: the answers of the judge, each with what is written about it.
+// What is said of a text: the answers of the judge, each with what is written about it; no failure, so no Result.
 #[derive(Clone, Copy, Debug, PartialEq, Eq)]
 pub enum Said<'a> {
     All(usize),

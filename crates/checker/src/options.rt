@@ -150,7 +150,7 @@ impl Options {
     }
 }
 
-// Does this with each argument behind the program's name in turn, until it fails: with its number, and its bytes if they fit.
+// No clause can say what the arguments are. Does this with each argument behind the program's name in turn, until it fails: with its number, and its bytes if they fit.
 pub fn each_argument<E, F: FnMut(usize, Option<&[u8]>) -> Result<(), E>>(
     env: &impl Env,
     mut visit: F,

@@ -13,7 +13,7 @@ mod row;
 mod settle;
 
 // What came of a text. No Result: each is an answer with numbers of its own, and none a failure of the call.
-#[derive(Clone, Copy)]
+#[derive(Clone, Copy, Debug, PartialEq, Eq)]
 pub enum Checked {
     // All of its declarations check, so many.
     All(usize),

@@ -1,4 +1,4 @@
-// An entry given to the kernel, with the words that are left to work in.
+// An entry given to the kernel, with the words that are left to work in. Its parameters meet here alone, so they are no struct.
 ghost use Rattle.std.specs.Prelude.{ℕ, length};
 ghost use Rattle.theory.specs.Environment.{Entry, Env};
 ghost use Rattle.judge.specs.Judging.{Entering, Enters, Settles};

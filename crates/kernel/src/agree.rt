@@ -1,4 +1,4 @@
-// Are two types convertible? First as they stand, then by their normal forms.
+// Are two types convertible? First as they stand, then by their normal forms. Both take the heap and the stack alone, as reduction does.
 ghost use Rattle.std.specs.Prelude.{ℕ, ◌+◌, ◌*◌, ◌≤◌, List, length};
 ghost use Rattle.theory.specs.Terms.{Term, size};
 ghost use Rattle.theory.specs.Environment.{Env};

@@ -25,7 +25,7 @@ impl Kind {
         self as u32
     }
 
-    // The kind with this word: the numbers of the words become kinds here alone.
+    // The kind with this word: the numbers of the words become kinds here alone. It asks for one of them, so it is no TryFrom.
     pub fn of(word: u32) -> Kind
         requires { word < 6 }
         ensures { kind_word result ≡ word }

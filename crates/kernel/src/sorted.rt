@@ -1,4 +1,4 @@
-// The level of a type.
+// The level of a type. It takes the heap and the stack alone, as reduction does.
 ghost use Rattle.std.specs.Prelude.{length};
 ghost use Rattle.theory.specs.Terms.{Term};
 ghost use Rattle.theory.specs.Environment.{Env};

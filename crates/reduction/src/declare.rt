@@ -1,4 +1,5 @@
-// An entry put behind the environment.
+// An entry put behind the environment. The table and the store stay two slices with the numbers of what is used: a caller keeps the numbers
+// between the calls, but lends the words anew for each, so a struct of them would be built for one call alone.
 ghost use Rattle.std.specs.Prelude.{◌≡◌, ℕ, ◌+◌, ◌*◌, ◌<◌, ◌≤◌, List, [], ◌∷◌, ◌++◌, length, take};
 ghost use Rattle.std.proofs.Math.ListN.{get_elem?};
 ghost use Rattle.theory.specs.Terms.{Term, size};
@@ -68,8 +69,6 @@ pub fn declare_axiom(
     Some(end)
 }
 
-// The table and the store stay two slices with the numbers of what is used: a caller keeps the numbers between the calls, but lends the words
-// anew for each, so a struct of them would be built for one call alone.
 // The entry whose words behind the first three stand in the store, with the mark that `find_entry` reads: 0 a definition, 1 an axiom.
 fn enter(index: &mut [u32], count: usize, store: &mut [u32], used: usize, mark: u32, value: usize)
     requires table { 2 * (count + 1) ≤ length index.old }

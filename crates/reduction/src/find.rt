@@ -18,7 +18,7 @@ pub enum Kind {
     Last,
 }
 
-// The marks 0 and 1 are written and read in these two alone.
+// The marks 0 and 1 are written and read in these two alone: a number as wide as a place, so no discriminant.
 impl Kind {
     // The number for it on the stack.
     fn mark(self) -> usize

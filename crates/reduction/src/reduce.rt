@@ -83,7 +83,7 @@ fn at_rest(aim: Aim, steps: u64, end: usize) -> Reduced
     }
 }
 
-// Reduces the term that stands from `at` to `end` in place, in normal order, until it is of the aim's form or normal. The steps taken are
+// The words are lent apart, as those of a step are. Reduces the term that stands from `at` to `end` in place, in normal order, until it is of the aim's form or normal. The steps taken are
 // counted on from those of the budget, up to its most.
 pub fn reduce(
     env: Environment,
@@ -100,6 +100,7 @@ pub fn reduce(
 {
     let mut stop = end;
     let mut steps = budget.taken;
+    // A labelled loop, left where the number of steps is used up.
     'steps: loop {
         if stack.len() < stop - at {
             return Err(ReduceError::NoRoom);

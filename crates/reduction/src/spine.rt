@@ -27,6 +27,7 @@ pub fn count_uses(words: &[u32], at: usize) -> usize
     ensures within { at + 3 * result + 3 ≤ length words.now }
     ensures head { (t : Term) (rest : List ℕ) → At words.now at t rest → HeadAt words.now (at + 3 * result) result t }
 {
+    // No iterator: a node's sign is read only where a term stands, which each step shows of the next place.
     let mut place = at;
     let mut count = 0;
     while let Sign::App = sign_at(words, place) {

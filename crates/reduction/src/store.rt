@@ -51,7 +51,7 @@ impl Environment<'_> {
         Some(number_of(self.index[i], self.index[i + 1]))
     }
 
-    // The entry with this number. Its mark, the first word, is read here alone, so the marks stay the numbers of the words' format.
+    // The entry with this number. Its mark, the first word, is read here alone: `Found` is the enum of them.
     pub fn find_entry(self, number: u32) -> Option<Found>
         ensures { (e : Env) → EnvAt self.entry.index.now self.entry.store.now e → Finds self.entry.store.now (get_elem? e number) result }
     {

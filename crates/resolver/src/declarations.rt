@@ -41,7 +41,7 @@ pub fn declare(tree: &[u32], at: usize, table: &mut [u32], used: usize, number: 
     add_row(table, used, at + 1, Sign::Def(number))
 }
 
-// The definition or axiom that stands there, its names resolved.
+// The definition or axiom that stands there, its names resolved. Its parameters are those of a term.
 pub fn resolve_declaration(
     tree: &[u32],
     at: usize,

@@ -93,6 +93,7 @@ pub fn resolve_term(
     let mut place = at;
     let mut end = start;
     let mut free = top;
+    // A loop with what waits on the stack: how many nodes come is known only as they are read.
     loop {
         let names = Names {
             tree,

@@ -8,7 +8,7 @@ use Rattle.std.proofs.lemmas.Bool.{ne_eqb, cond-false}
 use Rattle.syntax.specs.Grammar.{letters}
 use Rattle.syntax.specs.Lexing.{Solid, NoLetter}
 use Rattle.syntax.specs.Surface.{Name}
-use Rattle.syntax.specs.Tokens.{Turn, word, comment, letter, blank, begins, joins, fresh, tokens, tokens_from}
+use Rattle.syntax.specs.Tokens.{Mode, between, Turn, word, comment, letter, blank, begins, joins, fresh, tokens, tokens_from}
 
 -- The elements from the front on that pass a test.
 abbrev cut : (ℕ → Bool) → List ℕ → List ℕ
@@ -41,6 +41,16 @@ blank_at bs n h x = ap tokens (drop-cons bs n 0 h) ∙ skip_blank (get_or bs n 0
   where
     skip_blank : (c : ℕ) (cs : List ℕ) → blank c ≡ true → tokens (c ∷ cs) ≡ tokens cs
     skip_blank c cs p = rw p refl
+
+-- The same of what was cut before, in a comment or between tokens.
+abbrev pub skipping : Bool → Mode
+skipping true = comment
+skipping false = between
+
+pub skip_on_blank : (b b' : Bool) (bs : List ℕ) (n : ℕ) → n < length bs → tokens bs ≡ tokens_from (skipping b) (drop n bs)
+    → b ≡ false → b' ≡ b → blank (get_or bs n 0) ≡ true → tokens bs ≡ tokens_from (skipping b') (drop (n + 1) bs)
+skip_on_blank b b' bs n h p q r x =
+    p ∙ ap (λ (y : Bool). tokens_from (skipping y) (drop n bs)) q ∙ blank_at bs n h x ∙ ap (λ (y : Bool). tokens_from (skipping y) (drop (n + 1) bs)) (sym (r ∙ q))
 
 -- Skipping is over at the end, and at a byte that is neither blank nor #.
 pub skip_stop : (bs : List ℕ) (n : ℕ) → n < length bs → blank (get_or bs n 0) ≡ false → (get_or bs n 0 ≡ 35 → ⊥) → Solid (drop n bs)

@@ -1,4 +1,5 @@
 // The text format: tokens, and the declarations that they say.
+// The memory is fixed and lent by the caller: the tree and the notes of names are words.
 
 #![tactic(auto)]
 
@@ -18,7 +19,7 @@ mod write;
 
 ghost use Rattle.syntax.specs.Grammar.{OneReading};
 
-// A text is at most one row of declarations.
+// A text is at most one row of declarations. A function for a theorem, as in crate theory.
 pub fn one_reading_stands() -> u8
     ensures { OneReading }
 {

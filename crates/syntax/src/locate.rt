@@ -61,7 +61,7 @@ pub fn find_header(text: &[u8], n: usize) -> Option<Header<'_>>
     None
 }
 
-// In a text that reads, the n-th header is that of the n-th declaration.
+// In a text that reads, the n-th header is that of the n-th declaration. A function for a theorem, as in crate theory.
 pub fn headers_stand() -> u8
     ensures { HeadersRight }
 {

@@ -66,6 +66,7 @@ fn declarations(bytes: &[u8], tree: &mut Writer<'_>, names: &mut Writer<'_>) -> 
         stage: 0,
     };
     let mut count = 0;
+    // No `for`: each declaration is cut off the rest, which may fail.
     while next_token(all.rest).is_some() {
         let read = declaration(all.rest, tree, names)?;
         all = all.then(read);

@@ -27,7 +27,7 @@ pub enum Problem {
 }
 
 impl Problem {
-    // The problem in words. No Display: what is said of a text holds the words.
+    // The problem in words. No Display: the words are one text, which is held and written as it is.
     pub fn text(self) -> &'static str
         ensures { result.now ≡ phrase self }
     {

@@ -43,7 +43,7 @@ pub fn expect<'a>(bytes: &'a [u8], wanted: &[u8], problem: Problem) -> Result<&'
     })
 }
 
-// A name that must come first.
+// A name that must come first. What these three share is `ok_or`: what they look for and what they hand back differs.
 pub fn expect_name(bytes: &[u8]) -> Result<Word<'_>, Stop>
     ensures { ExpectsName bytes.now result }
 {

@@ -99,7 +99,7 @@ fn first_word(bytes: &[u8]) -> Option<Word<'_>>
     })
 }
 
-// The name that comes first.
+// The name that comes first. It and the next function share the word; with the test as a parameter they would be no shorter.
 pub fn read_name(bytes: &[u8]) -> Option<Word<'_>>
     ensures { FindsWord is_name bytes.now result }
 {

@@ -23,7 +23,8 @@ pub enum Tag {
 }
 
 impl Tag {
-    // The tag with that number, if one has it. The numbers of the words become tags here alone. No TryFrom: there is nothing to say of a failure.
+    // The tag with that number, if one has it. The numbers of the words become tags here alone. An Option and no TryFrom: the
+    // one caller knows that a tag stands there, and an error would say no more.
     pub fn of(word: u32) -> Option<Tag>
         ensures { TagOf word result }
     {

@@ -116,6 +116,7 @@ fn uses<'a>(bytes: &'a [u8], out: &mut Writer<'_>) -> Result<Read<'a>, Stop>
     let start = out.len;
     let first = atom(bytes, out)?;
     let mut all = first;
+    // No `for`: each atom is cut off the rest, which may fail.
     let mut count = 0;
     while starts_atom(all.rest) {
         let next = atom(all.rest, out)?;
@@ -253,6 +254,7 @@ fn apply<'a>(bytes: &'a [u8], out: &mut Writer<'_>) -> Result<Read<'a>, Stop>
     let start = out.len;
     let first = exact(bytes, out)?;
     let mut all = first;
+    // No `for`: each script is cut off the rest, which may fail.
     let mut count = 0;
     while let Some(inner) = eat(all.rest, b"{") {
         let read = script(inner, out)?;

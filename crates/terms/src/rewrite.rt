@@ -66,6 +66,7 @@ pub fn rewrite<R: Rule>(
     requires shallow { depth ≤ 2 ^ 63 }
     ensures { (u : Term) (t : Term) (rest : List ℕ) → R.argument rule.now u → At from.now at t rest → Writes out.old start out.new (length stack.old) (rewritten (R.words rule.now u) depth t []) result }
 {
+    // A labelled loop with what waits on the stack: how many nodes come is known only as they are read.
     let mut place = at;
     let mut end = start;
     let mut free = stack.len();

@@ -1,6 +1,6 @@
 -- Weak-head steps: the redex at the head of a spine, or in the last argument that a recursor or an elimination needs.
 -- A weak-head step is the normal-order step, and a term that takes one is no variable, sort, function type or function.
-use Rattle.std.proofs.Common.{◌≡◌, refl, sym, ap, ◌∙◌, Bool, true, false, List, [], ◌∷◌, ℕ, suc, ◌<◌, arith, length, eqb, eqb-true, ne_eqb}
+use Rattle.std.proofs.Common.{◌+◌, ◌≡◌, refl, sym, ap, ◌∙◌, Bool, true, false, List, [], ◌∷◌, ℕ, suc, ◌<◌, arith, length, eqb, eqb-true, ne_eqb}
 use mathlib.Core.Option.{some, none}
 use Rattle.theory.proofs.Options.{none-some, some_inj, false-true, cases_option, cases_bool, bind-some, option-true}
 use Rattle.theory.proofs.Iota.{spine_head, spine-args, last_append, beta-some, contract-some}
@@ -34,7 +34,7 @@ needs_exactly e (h_def i) n m p l = false-true p
 needs_exactly e (h_data i) n m p l = false-true p
 needs_exactly e (h_con i k) n m p l = false-true p
 needs_exactly e (h_rec i j) n m p l =
-    option-true (data_at e i) _ p λ k k_at q. rw k_at (ne_eqb m _ (λ r. let z : n ≡ rec_arity k = eqb-true n _ q in omega arith))
+    option-true (data_at e i) _ p λ k k_at q. rw k_at (ne_eqb m _ (λ r. let z : n ≡ length k.params + (2 + length k.cons) = eqb-true n _ q in omega arith))
 needs_exactly e (h_eq i) n m p l = false-true p
 needs_exactly e (h_refl i) n m p l = false-true p
 needs_exactly e (h_along i j) n m p l = ne_eqb m 6 (λ r. let z : n ≡ 6 = eqb-true n 6 p in omega arith)

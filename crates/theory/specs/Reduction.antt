@@ -120,7 +120,7 @@ abbrev pub needs_last : Env → Head → ℕ → Bool
 needs_last e (h_def i) n = false
 needs_last e (h_data i) n = false
 needs_last e (h_con i k) n = false
-needs_last e (h_rec i j) n = option (data_at e i) false (λ k. eqb n (rec_arity k))
+needs_last e (h_rec i j) n = option (data_at e i) false (λ k. eqb n (length k.params + (2 + length k.cons)))
 needs_last e (h_eq i) n = false
 needs_last e (h_refl i) n = false
 needs_last e (h_along i j) n = eqb n 6
