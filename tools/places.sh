@@ -29,8 +29,8 @@ p2() {
         sort | awk -F'\t' '{n[$1]++; w[$1]=w[$1] " " $2} END {for (s in n) if (n[s] > 1) print n[s], s, w[s]}' | sort -rn
 }
 
-# 3: a loop that counts: over a range of numbers, or with a place or a count that is moved by hand.
-p3() { grep -nE 'for [a-z_]+ in [0-9a-z_]+\.\.|^ *while [^l]|^ *while left' $src; }
+# 3: a loop that is no `for` over a collection: over a range of numbers, or with a place or a count that is moved by hand.
+p3() { grep -nE "for [a-z_]+ in [0-9a-z_]+\\.\\.|^ *while |^ *('[a-z]+: )?loop \\{" $src; }
 
 # 4: equality, order, conversion and printing by hand.
 p4() { grep -nE "fn (same|equal|larger|smaller|made_from|as_text|text|of|of_word|rank|kind_of|leave|decode|is_index|same_[a-z]+)\b" $src; }
