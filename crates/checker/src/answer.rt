@@ -1,4 +1,4 @@
-// What is said of a text.
+// What is said of a text: a slice of the buffer, so that it has at most the 32,769 bytes of that is a clause.
 ghost use Rattle.std.specs.Prelude.{◌≡◌, ℕ, ◌+◌, ◌-◌, ◌*◌, ◌≤◌, ◌⊎◌, length, codes, IsUtf8, Some};
 ghost use Rattle.judge.specs.Promise.{CheckedPost};
 ghost use Rattle.judge.specs.declared.Checked.{Checked};

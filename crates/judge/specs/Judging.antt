@@ -31,8 +31,8 @@ pub record Judged (t : List ℕ) (done rest : List Decl) (gs : List Global) (e :
   pub checks : Checks done gs e
 
 -- The same in words: the rest stands in the tree from the place of the spot on, the globals in the rows of the table, the environment
--- in the index and the store, and there is room in them for the rest; so many words are there for resolving names. There are no more
--- declarations than bytes.
+-- in the index and the store, and there is room in them for the rest; so many words are there for resolving names. There are
+-- at most 32,768 declarations.
 pub record Judging (t tree index table store : List ℕ) (words : ℕ) (s : Spot) (done rest : List Decl) (gs : List Global) (e : Env) : Type 0 where
   pub judged : Judged t done rest gs e
   pub count : s.count ≡ length done

@@ -1,4 +1,5 @@
 // The judge: one call, one answer, under one promise.
+// The memory is fixed and lent by the caller: tree, names, index, table and store are regions of the words, with how much of them is in use.
 
 #![tactic(auto)]
 

@@ -29,6 +29,7 @@ pub record Checkable (e : Env) (c : Entry) (index store context frames heap stac
   pub frames_room : 7 * entry_size c ≤ length frames
   pub stack_room : length heap ≤ length stack
 
+-- The same in a machine.
 abbrev pub Fits : Env → Entry → Machine → Type 0
 Fits e c m = Checkable e c m.env.index.now m.env.store.now m.context.now m.frames.now m.heap.now m.stack.now
 

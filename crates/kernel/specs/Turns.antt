@@ -104,5 +104,6 @@ weight terms frames (Ok (Down s)) = 3 * (terms - s.at) + (frames - s.free)
 weight terms frames (Ok (Back s end)) = 3 * (terms - s.at) + (frames - s.free) + 5
 weight terms frames (Err f) = 0
 
+-- Less is left after a turn.
 abbrev pub Falls : Machine → Turn → Result Turn Failure → Type 0
 Falls m t r = weight (length m.terms.now) (length m.frames.now) r < weight (length m.terms.now) (length m.frames.now) (Ok t)

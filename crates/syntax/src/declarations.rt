@@ -1,5 +1,6 @@
 // Declarations: what is read is written as a tree, and the names that are declared are noted apart. The two writers go side by
-// side and are no struct of two: of a buffer that a writer in a struct borrows, nothing is known at the end.
+// side and are no struct of two: of a buffer that a writer in a struct borrows, nothing is known at the end. That the bytes are at most
+// 32,768 is a clause here and in data and parse: they are a slice of the text, and no type bounds a slice.
 ghost use Rattle.std.specs.Prelude.{◌+◌, ◌*◌, ◌≤◌, length};
 ghost use Rattle.syntax.specs.Surface.{params_stage, expr_stage, decl_stage, decl_names};
 ghost use Rattle.syntax.specs.Tokens.{tokens};

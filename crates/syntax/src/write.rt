@@ -5,7 +5,8 @@ ghost use Rattle.syntax.specs.Tags.{tag_word};
 use crate::tag::Tag;
 
 // A buffer that is lent, and how many of its words are written. Room for more is a clause of each function, since it depends on the bytes
-// that are left; a ghost field beside a `&mut` gets no generated proof.
+// that are left; a ghost field beside a `&mut` gets no generated proof. So is that a name has at most 32 bytes, which is tested where it is read:
+// it stays a slice of the text.
 #[derive(Drop)]
 pub struct Writer<'w> {
     pub words: &'w mut [u32],
