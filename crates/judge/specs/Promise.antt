@@ -4,6 +4,7 @@ use Rattle.judge.specs.declared.Checked.{Checked}
 use Rattle.judge.specs.declared.Checked.TheVariants.{All, Refused, Open, Spent, NoRoom, NotYet, NoText, Few}
 use Rattle.theory.specs.Environment.{Entry, Env}
 use Rattle.theory.specs.Question.{TakesLonger, TakesMore}
+use Rattle.theory.specs.Theorems.{InferenceSound, InferenceComplete}
 use Rattle.syntax.specs.Surface.{Decl, stage}
 use Rattle.syntax.specs.Grammar.{Reads, OneReading}
 use Rattle.elaboration.specs.Elaboration.{Global}
@@ -48,9 +49,11 @@ CheckedSays t most w (NotYet n) = (ds : List Decl) × Reads t ds × (stage ds �
 CheckedSays t most w NoText = (ds : List Decl) → Reads t ds → ⊥
 CheckedSays t most w Few = Unit {0}
 
--- The promise of an answer: what it says; Few is said just if there are fewer than 65,536 words and 16 for each byte; and a text
--- is at most one row of declarations.
+-- The promise of an answer: what it says; Few is said just if there are fewer than 65,536 words and 16 for each byte; a text is at most
+-- one row of declarations; and the types that are inferred, of which the answers speak, are the types, and are there where a type is.
 pub record CheckedPost (t : List ℕ) (most w : ℕ) (r : Checked) : Type 0 where
   pub says : CheckedSays t most w r
   pub few : (w < 65536 + 16 * length t) ↔ (r ≡ Few)
   pub one_reading : OneReading
+  pub inference_sound : InferenceSound
+  pub inference_complete : InferenceComplete
