@@ -73,7 +73,7 @@ pub fn judge_file(
             Ok(Outcome::from(said))
         }
         Err(e) => {
-            complain_of(rt, name.as_bytes(), e)?;
+            complain(rt, format_args!("{name}: {e}"))?;
             Ok(Outcome::Unread)
         }
     }

@@ -46,7 +46,7 @@ impl Judging {
         ensures { self.new.tally.faults ≡ add_up self.old.tally.faults 1 }
     {
         self.tally.count_fault();
-        complain_of(rt, word.as_bytes(), what)
+        complain(rt, format_args!("{word}: {what}"))
     }
 
     // A text cannot be read.
@@ -169,7 +169,10 @@ impl Judging {
                 Ok(0) => break,
                 Ok(n) => self.lines(rt, &mut name, &buf[..n])?,
                 Err(e) if e.kind() == ErrorKind::Interrupted => {}
-                Err(e) => return self.unread(rt, b"-", e),
+                Err(e) => {
+                    self.tally.count(Outcome::Unread);
+                    return complain(rt, format_args!("-: {e}"));
+                }
             }
         }
         self.line(rt, &name)

@@ -1,25 +1,26 @@
 // A name that is read byte by byte, and kept in a buffer of one size.
-ghost use Rattle.std.specs.Prelude.{◌≡◌, [], ◌∷◌, ◌++◌, take, length, nat_lt};
+ghost use Rattle.std.specs.Prelude.{◌≡◌, ◌≤◌, [], ◌∷◌, ◌++◌, take, length, nat_lt};
 
 use crate::options::NAME_BYTES;
-use arrayvec::ArrayVec;
 use std::marker::Model;
 
 // One byte more than is kept of a name tells that there were more.
 const FULL_BYTES: usize = NAME_BYTES + 1;
 
-// The bytes so far, and at most one more than are kept.
+// The bytes so far, and at most one more than are kept: an array and a length, since a crate for them would be one more thing to trust.
 #[derive(Drop)]
 pub struct Name {
-    bytes: ArrayVec<u8, FULL_BYTES>,
+    buf: [u8; FULL_BYTES],
+    len: usize,
+    ghost within: { len ≤ length buf },
 }
 
 impl Model for Name {
-    ghost use Rattle.std.specs.Prelude.{ℕ, List};
+    ghost use Rattle.std.specs.Prelude.{ℕ, List, take};
 
     ghost Value = { List ℕ };
 
-    ghost view = { λ n. n.bytes.items };
+    ghost view = { λ n. take n.len n.buf };
 }
 
 impl Name {
@@ -28,7 +29,8 @@ impl Name {
         ensures { result ≡ [] }
     {
         Name {
-            bytes: ArrayVec::new(),
+            buf: [0; FULL_BYTES],
+            len: 0,
         }
     }
 
@@ -36,8 +38,9 @@ impl Name {
     pub fn push(&mut self, b: u8)
         ensures { self.new ≡ take 4097 (self.old ++ b ∷ []) }
     {
-        if !self.bytes.is_full() {
-            self.bytes.push(b);
+        if self.len < FULL_BYTES {
+            self.buf[self.len] = b;
+            self.len += 1;
         }
     }
 
@@ -45,21 +48,21 @@ impl Name {
     pub fn clear(&mut self)
         ensures { self.new ≡ [] }
     {
-        self.bytes.clear();
+        self.len = 0;
     }
 
     // Was there more than there is room for?
     pub fn is_long(&self) -> bool
         ensures { result ≡ nat_lt 4096 (length self.now) }
     {
-        self.bytes.len() > NAME_BYTES
+        self.len > NAME_BYTES
     }
 
     // The bytes that are kept.
     pub fn bytes(&self) -> &[u8]
         ensures { result.now ≡ take 4096 self.now }
     {
-        let all = self.bytes.as_slice();
+        let all = &self.buf[..self.len];
         &all[..NAME_BYTES.min(all.len())]
     }
 }

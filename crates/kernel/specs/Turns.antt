@@ -83,13 +83,17 @@ pub record Tagged (frames : List ℕ) (free : ℕ) (kind : Kind) : Type 0 where
   pub below : free < length frames
   pub is : slice_index_or frames free 0 ≡ kind_word kind
 
--- What is read stays as it is, and so do the numbers of words.
+-- What is read stays as it is, and so do the numbers of words; and what is written stays in the slices that were lent for it.
 pub record Keeps (m n : Machine) : Type 0 where
   pub read : n ≡ record m { context = n.context; frames = n.frames; heap = n.heap; stack = n.stack }
   pub context : length n.context.now ≡ length m.context.now
   pub frames : length n.frames.now ≡ length m.frames.now
   pub heap : length n.heap.now ≡ length m.heap.now
   pub stack : length n.stack.now ≡ length m.stack.now
+  pub context_same : n.context.ghost_name ≡ m.context.ghost_name
+  pub frames_same : n.frames.ghost_name ≡ m.frames.ghost_name
+  pub heap_same : n.heap.ghost_name ≡ m.heap.ghost_name
+  pub stack_same : n.stack.ghost_name ≡ m.stack.ghost_name
 
 -- What a turn down, or back, promises.
 abbrev pub Goes : Machine → Spot → Machine → Result Turn Failure → Type 0

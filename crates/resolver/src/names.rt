@@ -1,5 +1,6 @@
 // Names looked up: among those that are bound, and among those that were declared.
-ghost use Rattle.std.specs.Prelude.{◌≡◌, List};
+ghost use Rattle.std.specs.Prelude.{◌≡◌, List, nat_eq};
+ghost use Rattle.std.specs.Cmp.Lexicographic.{pointwise};
 ghost use Rattle.syntax.specs.Surface.{Name, same};
 ghost use Rattle.elaboration.specs.Elaboration.{Global};
 ghost use Rattle.resolver.specs.Names.{NameAt, Named, GlobalsAt, Tabled, ScopeAt, Scoped, global_sign, index_found};
@@ -27,24 +28,37 @@ pub fn name_at(tree: &[u32], at: usize) -> &[u32]
     &tree[start..end]
 }
 
+// Are the names the same? Those of one length differ most often at their ends, which one item tells.
+fn same_name(left: &[u32], right: &[u32]) -> bool
+    ensures { result ≡ pointwise nat_eq left.now right.now }
+{
+    left.len() == right.len() && left.last() == right.last() && left == right
+}
+
 // Does this name stand there?
 fn is_name(tree: &[u32], at: usize, name: &[u32]) -> bool
     requires { Named tree.now at }
     ensures { (x : Name) → NameAt tree.now at x → result ≡ same x name.now }
 {
-    name_at(tree, at) == name
+    same_name(name_at(tree, at), name)
 }
 
 impl Names<'_> {
-    // The de Bruijn index of a name that is bound.
+    // The de Bruijn index of a name that is bound. One loop looks and counts: a filter and a position would be two, one in the other.
     pub fn index_of(&self, name: &[u32]) -> Option<usize>
         requires { Scoped self.now.tree.now self.now.frames.now }
         ensures { (ys : List Name) → ScopeAt self.now.tree.now self.now.frames.now ys → result ≡ index_found ys name.now }
     {
-        self.frames
-            .chunks_exact(2)
-            .filter(|frame| frame[0] == FrameKind::Bound as u32)
-            .position(|frame| is_name(self.tree, frame[1] as usize, name))
+        let mut index = 0;
+        for frame in self.frames.chunks_exact(2) {
+            if frame[0] == FrameKind::Bound as u32 {
+                if is_name(self.tree, frame[1] as usize, name) {
+                    return Some(index);
+                }
+                index += 1;
+            }
+        }
+        None
     }
 
     // The node for the first global of that name.

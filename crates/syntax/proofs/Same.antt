@@ -1,6 +1,7 @@
 -- Tests: one that passes is true and one that fails is false, and so through their and and or;
 -- names for which same passes are equal.
-use Rattle.std.proofs.Common.{◌≡◌, Bool, true, false, not, ◌&&◌, ◌||◌, T, eqb, List, [], ◌∷◌, refl, ap, ◌∙◌, ap₂, eqb→eq, arith, ℕ}
+use Rattle.std.proofs.Common.{◌≡◌, ◌+◌, ◌<◌, ◌≤◌, Bool, true, false, not, ◌&&◌, ◌||◌, T, eqb, List, [], ◌∷◌, length, drop, slice_index_or, sym, refl, ap, ◌∙◌, ap₂, eqb→eq, arith, ℕ, drop_of_length-le}
+use Rattle.std.proofs.lemmas.List.{drop_more}
 use Rattle.std.specs.Cmp.Lexicographic.{pointwise}
 use Rattle.std.specs.List.{list_any}
 use Rattle.syntax.specs.Surface.{Name, same, listed}
@@ -51,3 +52,20 @@ same_sym (x ∷ xs) (y ∷ ys) = ap₂ (λ (a b : Bool). a && b) (eqb_sym x y) (
 pub any_listed : (x : Name) (ks : List Name) → list_any (λ k. pointwise eqb k x) ks ≡ listed x ks
 any_listed x [] = refl
 any_listed x (k ∷ ks) = ap₂ (λ (a b : Bool). a || b) (pointwise_same k x ∙ same_sym k x) (any_listed x ks)
+
+-- What two slices say from a place on, by the items there.
+pub pairs_left : {X : Type 0} (E : X → X → Bool) (xs ys : List X) (i : ℕ) (x y : X) → i < length xs → i < length ys → x ≡ slice_index_or xs i x → y ≡ slice_index_or ys i y
+    → pointwise E (drop i xs) (drop i ys) ≡ (E x y && pointwise E (drop (i + 1) xs) (drop (i + 1) ys))
+pairs_left E xs ys i x y l m p q =
+    ap₂ (pointwise E) (drop_more xs i x l ∙ ap (λ z. z ∷ drop (i + 1) xs) (sym p)) (drop_more ys i y m ∙ ap (λ z. z ∷ drop (i + 1) ys) (sym q))
+
+pub no_pairs_left : {X : Type 0} (E : X → X → Bool) (xs ys : List X) (i : ℕ) → length xs ≤ i → length ys ≤ i → pointwise E (drop i xs) (drop i ys) ≡ true
+no_pairs_left E xs ys i l m = ap₂ (pointwise E) (drop_of_length-le xs l) (drop_of_length-le ys m)
+
+pub not_true : (b : Bool) → true ≡ not b → b ≡ false
+not_true true e = e
+not_true false e = refl
+
+pub not_false : (b : Bool) → false ≡ not b → b ≡ true
+not_false true e = refl
+not_false false e = e

@@ -4,6 +4,7 @@
 #![tactic(auto)]
 
 mod atoms;
+mod compare;
 mod data;
 mod declarations;
 pub mod lexer;

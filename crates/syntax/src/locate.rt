@@ -5,7 +5,7 @@ ghost use Rattle.syntax.specs.Lexing.{lexeme};
 ghost use Rattle.syntax.specs.Headers.{begins_decl, FindsHeader, HeadersRight, TokenAt};
 
 use crate::lexer::{Token, next_token};
-use crate::scan::read_name;
+use crate::scan::{is_listed, read_name};
 
 // How a declaration begins: its keyword, its name, and where the keyword stands.
 #[derive(Clone, Copy, Debug, PartialEq, Eq)]
@@ -31,7 +31,7 @@ const BEGINNINGS: [&[u8]; 4] = [b"def", b"theorem", b"axiom", b"data"];
 fn begins_declaration(word: &[u8]) -> bool
     ensures { result ≡ begins_decl word.now }
 {
-    BEGINNINGS.contains(&word)
+    is_listed(word, &BEGINNINGS)
 }
 
 // The header of the n-th declaration, counted from 0.

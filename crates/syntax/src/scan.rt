@@ -1,11 +1,14 @@
 // What may come first in the bytes that are left: a given token, a name, a number.
-ghost use Rattle.std.specs.Prelude.{◌≡◌, true, [], ◌∷◌};
+ghost use Rattle.std.specs.Prelude.{◌≡◌, true, [], ◌∷◌, nat_eq};
+ghost use Rattle.std.specs.Cmp.Lexicographic.{pointwise};
+ghost use Rattle.std.specs.List.{list_any};
 ghost use Rattle.syntax.specs.Surface.{same, listed, w_eq, w_same, w_along};
 ghost use Rattle.syntax.specs.Grammar.{is_name, is_indexed_lem, letters, reserved};
 ghost use Rattle.syntax.specs.Reader.{starts_atom_lem};
 ghost use Rattle.syntax.specs.Tokens.{tokens};
 ghost use Rattle.syntax.specs.Lexing.{lexeme, Formed, Eats, FindsWord, FindsNumber, FindsBinder, FirstWord, ValueOf};
 
+use crate::compare::same_items;
 use crate::lexer::{Token, next_token};
 
 // The most bytes that a name may have.
@@ -30,11 +33,11 @@ pub fn is_token(token: Token<'_>, wanted: &[u8]) -> bool
     ensures { result ≡ same (lexeme token.entry) wanted.now }
 {
     match token {
-        Token::Word(word) => word == wanted,
-        Token::Becomes => wanted == b":=".as_slice(),
-        Token::Maps => wanted == b"=>".as_slice(),
-        Token::Arrow => wanted == b"->".as_slice(),
-        Token::Symbol(b) => wanted == [b].as_slice(),
+        Token::Word(word) => same_items(word, wanted),
+        Token::Becomes => same_items(b":=", wanted),
+        Token::Maps => same_items(b"=>", wanted),
+        Token::Arrow => same_items(b"->", wanted),
+        Token::Symbol(b) => same_items(&[b], wanted),
     }
 }
 
@@ -55,11 +58,23 @@ const RESERVED: [&[u8]; 17] = [
 // The words that take numbers.
 const INDEXED: [&[u8]; 3] = [b"eq", b"same", b"along"];
 
+// Is the word in the table? A loop, since `contains` makes a call for each word of the table.
+pub(crate) fn is_listed(word: &[u8], table: &[&[u8]]) -> bool
+    ensures { result ≡ list_any (λ k. pointwise nat_eq k.now word.now) table.now }
+{
+    for listed in table {
+        if same_items(listed, word) {
+            return true;
+        }
+    }
+    false
+}
+
 // Is it one of the reserved words?
 fn is_reserved(word: &[u8]) -> bool
     ensures { result ≡ listed word.now reserved }
 {
-    RESERVED.contains(&word)
+    is_listed(word, &RESERVED)
 }
 
 // May the word be a name?
@@ -74,7 +89,7 @@ pub fn is_name(word: &[u8]) -> bool
 pub fn takes_numbers(word: &[u8]) -> bool
     ensures { result ≡ listed word.now (w_eq ∷ w_same ∷ w_along ∷ []) }
 {
-    INDEXED.contains(&word)
+    is_listed(word, &INDEXED)
 }
 
 // May numbers stand behind the word?

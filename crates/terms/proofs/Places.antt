@@ -1,5 +1,5 @@
 -- Terms at places of the words.
-use Rattle.std.proofs.Common.{◌≡◌, ℕ, ◌+◌, ◌-◌, ◌*◌, ◌≤◌, Bool, true, false, refl, List, [], ◌∷◌, ◌++◌, length, get_or, take, drop, sym, ap, ◌∙◌, ap₂, append_assoc, arith, length-drop, length-take}
+use Rattle.std.proofs.Common.{◌≡◌, ℕ, ◌+◌, ◌*◌, ◌≤◌, Bool, true, false, refl, List, [], ◌∷◌, ◌++◌, length, get_or, take, drop, sym, ap, ◌∙◌, ap₂, append_assoc, arith, length-drop, length-take}
 use Rattle.std.proofs.lemmas.List.{get_or-drop, drop-drop, take-append-drop, take-take, drop-take, take_at, drop_at, length-take-le}
 use Rattle.std.specs.Bool.{Decides as Both}
 use Rattle.theory.proofs.Options.{false-true}
@@ -47,18 +47,17 @@ pub holds_within : (ws : List ℕ) (p : ℕ) → Holds ws p → p + 3 ≤ length
 holds_within ws p h = (at_three ws p h.term h.rest h.at).within
 
 -- Terms at two places have the same root exactly if the three words are the same.
-pub three_words : (ws : List ℕ) (p : ℕ) (t : Term) (rest : List ℕ) → At ws p t rest → take (p + 3 - p) (drop p ws) ≡ tag t ∷ low t ∷ high t ∷ []
-three_words ws p t rest a = ap (λ (k : ℕ). take k (drop p ws)) (let z : p + 3 - p ≡ 3 = omega arith in z) ∙ ap (take 3) (a.stands ∙ put_words t rest)
+abbrev pub SameWords : List ℕ → List ℕ → ℕ → ℕ → Type 0
+SameWords ws vs i j = ((get_or ws i 0 ≡ get_or vs j 0) × (get_or ws (i + 1) 0 ≡ get_or vs (j + 1) 0)) × (get_or ws (i + 2) 0 ≡ get_or vs (j + 2) 0)
 
-pub decides_root : (ws vs : List ℕ) (i j : ℕ) (r : Bool) → Both r (take (i + 3 - i) (drop i ws) ≡ take (j + 3 - j) (drop j vs))
+pub decides_root : (ws vs : List ℕ) (i j : ℕ) (r : Bool) → Both r (SameWords ws vs i j)
     → (t u : Term) (x y : List ℕ) → At ws i t x → At vs j u y → Decides (root t ≡ root u) r
 decides_root ws vs i j true d t u x y a b =
-    let e = sym (three_words ws i t x a) ∙ d.0 refl ∙ three_words vs j u y b in
-    root-same t u (let z : tag t ≡ tag u = cc in z) (let z : low t ≡ low u = cc in z) (let z : high t ≡ high u = cc in z)
+    let h = at_three ws i t x a in let k = at_three vs j u y b in let s = d.0 refl in
+    root-same t u (sym h.first ∙ s.0.0 ∙ k.first) (sym h.second ∙ s.0.1 ∙ k.second) (sym h.third ∙ s.1 ∙ k.third)
 decides_root ws vs i j false d t u x y a b = λ e.
-    let s = same-root t u e in
-    let z : tag t ∷ low t ∷ high t ∷ [] ≡ tag u ∷ low u ∷ high u ∷ [] = cc (s.0, s.1, s.2) in
-    false-true (d.1 (three_words ws i t x a ∙ z ∙ sym (three_words vs j u y b)))
+    let h = at_three ws i t x a in let k = at_three vs j u y b in let s = same-root t u e in
+    false-true (d.1 ((h.first ∙ s.0 ∙ sym k.first, h.second ∙ s.1 ∙ sym k.second), h.third ∙ s.2 ∙ sym k.third))
 
 -- The words of the term, from its place to its end; what stands behind it.
 pub at_words : (ws : List ℕ) (p : ℕ) (t : Term) (rest : List ℕ) → At ws p t rest → drop p (take (p + 3 * size t) ws) ≡ put t []

@@ -14,7 +14,8 @@ fn lifted(sign: Sign, cut: usize, by: usize) -> Sign
     ensures { result ≡ lift_sign cut by sign }
 {
     match sign {
-        Sign::Var(Index(x)) if x >= cut => Sign::Var(Index(x + by)),
+        Sign::Var(Index(x)) if x < cut => sign,
+        Sign::Var(Index(x)) => Sign::Var(Index(x + by)),
         _ => sign,
     }
 }

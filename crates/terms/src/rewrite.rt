@@ -36,7 +36,8 @@ pub trait Rule {
         ensures { (u : Term) → argument self.now u → Writes out.old start out.new (length stack.old) (words self.now u depth sign) result };
 }
 
-// The words of a node, if they fit.
+// The words of a node, if they fit. Always inlined, so that no answer passes through memory at each node.
+#[inline(always)]
 pub fn put_sign(sign: Sign, out: &mut [u32], start: usize) -> Result<usize, WriteError>
     requires { start ≤ length out.old }
     ensures { (stack : ℕ) → Writes out.old start out.new stack (sign_words sign) result }

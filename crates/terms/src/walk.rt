@@ -30,7 +30,7 @@ fn same_node(left: &[u32], i: usize, right: &[u32], j: usize) -> bool
     requires right { Holds right.now j }
     ensures { (t u : Term) (x y : List ℕ) → At left.now i t x → At right.now j u y → Decides (root t ≡ root u) result }
 {
-    left[i..i + 3] == right[j..j + 3]
+    (left[i], left[i + 1], left[i + 2]) == (right[j], right[j + 1], right[j + 2])
 }
 
 // Are the terms at the two places equal? Pairs of terms still to be compared stand one behind the other on both sides.

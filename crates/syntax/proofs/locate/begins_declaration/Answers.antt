@@ -4,4 +4,4 @@ use Rattle.syntax.proofs.Same.{any_listed}
 use Rattle.syntax.proofs.locate.begins_declaration.Goals as goal
 
 pub returns : goal.returns
-returns c = c.contains.ensures.value ∙ any_listed c.args.word.now (k_def ∷ k_theorem ∷ k_axiom ∷ k_data ∷ [])
+returns c = c.is_listed.ensures ∙ any_listed c.args.word.now (k_def ∷ k_theorem ∷ k_axiom ∷ k_data ∷ [])

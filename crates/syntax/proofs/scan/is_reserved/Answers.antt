@@ -4,4 +4,4 @@ use Rattle.syntax.proofs.Same.{any_listed}
 use Rattle.syntax.proofs.scan.is_reserved.Goals as goal
 
 pub returns : goal.returns
-returns c = c.contains.ensures.value ∙ any_listed c.args.word.now reserved
+returns c = c.is_listed.ensures ∙ any_listed c.args.word.now reserved

@@ -5,4 +5,4 @@ use Rattle.syntax.proofs.Same.{pointwise_same}
 use Rattle.syntax.proofs.scan.is_token.Goals as goal
 
 pub returns-in-Word : goal.returns-in-Word
-returns-in-Word c = c.eq.ensures ∙ pointwise_same c.in-Word.word.now c.args.wanted.now ∙ ap (λ (w : Name). same w c.args.wanted.now) (ap lexeme (sym c.in-Word.is))
+returns-in-Word c = c.same_items.ensures ∙ pointwise_same c.in-Word.word.now c.args.wanted.now ∙ ap (λ (w : Name). same w c.args.wanted.now) (ap lexeme (sym c.in-Word.is))

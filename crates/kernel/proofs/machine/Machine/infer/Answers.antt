@@ -5,7 +5,7 @@ use Rattle.kernel.proofs.Beginning.{begins_before, behind_end}
 use Rattle.kernel.proofs.machine.Machine.infer.Goals as goal
 
 pub loop-turn-init : goal.loop-turn-init
-loop-turn-init c = (λ k n b e. begins_before b (omega arith), record { read = refl; context = refl; frames = refl; heap = refl; stack = refl })
+loop-turn-init c = (λ k n b e. begins_before b (omega arith), record { read = refl; context = refl; frames = refl; heap = refl; stack = refl; context_same = refl; frames_same = refl; heap_same = refl; stack_same = refl })
 
 pub returns-then-spot-self-clause-answers : goal.returns-then-spot-self-clause-answers
 returns-then-spot-self-clause-answers c k n b e =
