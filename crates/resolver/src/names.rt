@@ -1,11 +1,11 @@
 // Names looked up: among those that are bound, and among those that were declared.
-ghost use Rattle.std.specs.Prelude.{◌≡◌, List, nat_eq};
-ghost use Rattle.std.specs.Cmp.Lexicographic.{pointwise};
+ghost use Rattle.std.specs.Prelude.{◌≡◌, List};
 ghost use Rattle.syntax.specs.Surface.{Name, same};
 ghost use Rattle.elaboration.specs.Elaboration.{Global};
 ghost use Rattle.resolver.specs.Names.{NameAt, Named, GlobalsAt, Tabled, ScopeAt, Scoped, global_sign, index_found};
 
 use crate::walk::FrameKind;
+use syntax::compare::same_items;
 use terms::sign::{Sign, sign_at};
 
 // The names at hand: those that were declared, in the rows of a table, and those that are bound, in frames; both by their places in
@@ -28,19 +28,12 @@ pub fn name_at(tree: &[u32], at: usize) -> &[u32]
     &tree[start..end]
 }
 
-// Are the names the same? Those of one length differ most often at their ends, which one item tells.
-fn same_name(left: &[u32], right: &[u32]) -> bool
-    ensures { result ≡ pointwise nat_eq left.now right.now }
-{
-    left.len() == right.len() && left.last() == right.last() && left == right
-}
-
 // Does this name stand there?
 fn is_name(tree: &[u32], at: usize, name: &[u32]) -> bool
     requires { Named tree.now at }
     ensures { (x : Name) → NameAt tree.now at x → result ≡ same x name.now }
 {
-    same_name(name_at(tree, at), name)
+    same_items(name_at(tree, at), name)
 }
 
 impl Names<'_> {

@@ -4,7 +4,7 @@
 #![tactic(auto)]
 
 mod atoms;
-mod compare;
+pub mod compare;
 mod data;
 mod declarations;
 pub mod lexer;

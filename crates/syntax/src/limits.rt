@@ -1,8 +1,8 @@
 // The limits of a text: how many brackets are open at once, and that no name is declared twice.
-ghost use Rattle.std.specs.Prelude.{◌≡◌, List, nat_eq};
-ghost use Rattle.std.specs.Cmp.Lexicographic.{pointwise};
+ghost use Rattle.std.specs.Prelude.{◌≡◌, List};
 ghost use Rattle.syntax.specs.Declaring.{Note, note_words, ReadsNote, Later, Distinct, Shallow};
 
+use crate::compare::same_items;
 use crate::lexer::next_token;
 use crate::scan::is_token;
 
@@ -53,13 +53,6 @@ fn first_note(notes: &[u32]) -> Option<NoteRead<'_>>
     })
 }
 
-// Are the names the same? Those of one form differ most often at their ends, which one item tells.
-fn same_name(left: &[u32], right: &[u32]) -> bool
-    ensures { result ≡ pointwise nat_eq left.now right.now }
-{
-    left.last() == right.last() && left == right
-}
-
 // How many bytes were left behind the first note of a name, if it is among those noted.
 fn later(name: &[u32], notes: &[u32]) -> Option<usize>
     requires { (ns : List Note) × (notes.now ≡ note_words ns) }
@@ -67,7 +60,7 @@ fn later(name: &[u32], notes: &[u32]) -> Option<usize>
 {
     let mut rest = notes;
     while let Some(note) = first_note(rest) {
-        if same_name(name, note.name) {
+        if same_items(name, note.name) {
             return Some(note.left);
         }
         rest = note.rest;
